@@ -28,7 +28,7 @@ def impl_of(struct, trait, names):
     """The head of an impl: lifetimes, the text that is lent, and the struct's type."""
     lent = f"&{struct.lifetime} str" if struct.lifetime else names.text
     kind = f"<{struct.lifetime}>" if struct.lifetime else ""
-    params = f"<{struct.lifetime}>" if struct.lifetime else f"<{names.text}: Lent>"
+    params = f"<{struct.lifetime}>" if struct.lifetime else f"<{names.text}: InputStr>"
     return lent, kind, f"impl{params} {trait}<{lent}>"
 
 
@@ -71,7 +71,7 @@ def member_of(struct, lent, names):
         ]
     other = ["            _ => tokens.skip()?,"]
     if struct.strict:
-        other = ["            _ => {", "                tokens.skip()?;", "                return Err(refusal(ErrorCode::TypeUnmatched));", "            }"]
+        other = ["            _ => {", "                tokens.skip()?;", "                return Err(error_without_place(ErrorCode::TypeUnmatched));", "            }"]
     return [
         f"    fn member<{names.tokens}: Tokens<{lent}>>(&mut self, alloc: Global, name: &str, tokens: &mut {names.tokens}) -> Result<()> {{",
         "        match name {",
@@ -151,8 +151,8 @@ def reader_of(struct, names):
         f"        read_struct::<{lent}, {builder}, {names.tokens}>(alloc, tokens)",
         "    }",
         "",
-        f"    fn found<{names.tokens}: Tokens<{lent}>>(alloc: Global, tokens: &mut {names.tokens}) -> Result<Option<{struct.name}{kind}>> {{",
-        f"        find_struct::<{lent}, {builder}, {names.tokens}>(alloc, tokens)",
+        f"    fn try_deserialize<{names.tokens}: Tokens<{lent}>>(alloc: Global, tokens: &mut {names.tokens}) -> Result<Option<{struct.name}{kind}>> {{",
+        f"        try_read_struct::<{lent}, {builder}, {names.tokens}>(alloc, tokens)",
         "    }",
         "}",
         "",
@@ -174,7 +174,7 @@ def writer_of(struct, names):
         "",
         f"    fn serialize<{names.events}: Events>(&self, out: &mut {names.events}) -> Result<()> {{",
         f"        let fields = {nested};",
-        "        give_fields(&fields, out)",
+        "        serialize_fields(&fields, out)",
         "    }",
         "",
         f"    fn key<{key}>(&{key} self, room: &{key} mut KeyRoom) -> Option<&{key} str> {{",
@@ -283,7 +283,7 @@ def imports_of(structs, paths, body):
     data = used(["boolean_datum", "integer_datum", "list_data", "list_datum", "no_data", "no_rows", "null_datum", "rows_datum", "text_datum"])
     fields = used(["field_datum", "or_default", "read_struct as spec_read_struct", "required as needed", "struct_datum"])
     explained = used(["field_reading", "object_refused", "struct_reading"])
-    calls = used(["Builder", "DeserializeFrom", "ErrorCode", "Events", "Field", "KeyRoom", "Lent", "Result", "Serialize", "Tokens", "find_struct", "give_fields", "read_struct", "refusal", "required"])
+    calls = used(["Builder", "DeserializeFrom", "ErrorCode", "Events", "Field", "InputStr", "KeyRoom", "Result", "Serialize", "Tokens", "error_without_place", "read_struct", "required", "serialize_fields", "try_read_struct"])
     explaining = used(["Explain", "ExplainMembers", "Piece", "Refusal", "explain_key", "explain_members"])
     own = sorted(named_above(structs))
     return [

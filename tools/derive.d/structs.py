@@ -7,7 +7,7 @@ from tokens import END, Refused, Stream, tokens_of
 
 ITEMS = ("struct", "enum", "union", "fn", "impl", "trait", "type", "static", "mod", "use", "const", "macro_rules", "ghost")
 BY_HAND = {"enum": "write its impls by hand", "union": "take a struct"}
-WRITTEN = {"Builder", "DeserializeFrom", "ErrorCode", "Events", "Explain", "ExplainMembers", "Field", "Global", "KeyRoom", "Lent"}
+WRITTEN = {"Builder", "DeserializeFrom", "ErrorCode", "Events", "Explain", "ExplainMembers", "Field", "Global", "InputStr", "KeyRoom"}
 WRITTEN |= {"Piece", "Refusal", "Result", "Serialize", "Tokens", *PRELUDE}
 
 

@@ -6,8 +6,8 @@ ghost use Rattle.mezdruk_json.specs.Refused.{field_reading, object_refused, stru
 
 use super::{Server, Site};
 use mezdruk_json::derive::{
-    Builder, DeserializeFrom, ErrorCode, Events, Field, KeyRoom, Lent, Result, Serialize, Tokens,
-    find_struct, give_fields, read_struct, refusal, required,
+    Builder, DeserializeFrom, ErrorCode, Events, Field, InputStr, KeyRoom, Result, Serialize,
+    Tokens, error_without_place, read_struct, required, serialize_fields, try_read_struct,
 };
 use mezdruk_json::explain::{
     Explain, ExplainMembers, Piece, Refusal, explain_key, explain_members,
@@ -24,7 +24,7 @@ struct ServerBuilder {
     note: Option<Option<String>>,
 }
 
-impl<S: Lent> Builder<S> for ServerBuilder {
+impl<S: InputStr> Builder<S> for ServerBuilder {
     type Built = Server;
 
     ghost shape = { record {
@@ -116,7 +116,7 @@ impl<S: Lent> Builder<S> for ServerBuilder {
     }
 }
 
-impl<S: Lent> DeserializeFrom<S> for Server {
+impl<S: InputStr> DeserializeFrom<S> for Server {
     ghost datum = { λ v. struct_datum ⟦<ServerBuilder as Builder<S>>⟧.shape (⟦<ServerBuilder as Builder<S>>⟧.values v) };
 
     ghost from_tree = { spec_read_struct ⟦<ServerBuilder as Builder<S>>⟧.shape };
@@ -125,8 +125,8 @@ impl<S: Lent> DeserializeFrom<S> for Server {
         read_struct::<S, ServerBuilder, T>(alloc, tokens)
     }
 
-    fn found<T: Tokens<S>>(alloc: Global, tokens: &mut T) -> Result<Option<Server>> {
-        find_struct::<S, ServerBuilder, T>(alloc, tokens)
+    fn try_deserialize<T: Tokens<S>>(alloc: Global, tokens: &mut T) -> Result<Option<Server>> {
+        try_read_struct::<S, ServerBuilder, T>(alloc, tokens)
     }
 }
 
@@ -140,7 +140,7 @@ struct ServerSeen {
     note: bool,
 }
 
-impl<S: Lent> ExplainMembers<S> for ServerSeen {
+impl<S: InputStr> ExplainMembers<S> for ServerSeen {
     ghost reading = { struct_reading false (field_reading (codes "host") ⟦<String as Explain<S>>⟧.refused true
         ∷ field_reading (codes "port") ⟦<u16 as Explain<S>>⟧.refused true
         ∷ field_reading (codes "years-running") ⟦<u8 as Explain<S>>⟧.refused false
@@ -197,7 +197,7 @@ impl<S: Lent> ExplainMembers<S> for ServerSeen {
     }
 }
 
-impl<S: Lent> Explain<S> for Server {
+impl<S: InputStr> Explain<S> for Server {
     ghost refused = { object_refused ⟦<ServerSeen as ExplainMembers<S>>⟧.reading (false ∷ false ∷ false ∷ false ∷ false ∷ []) };
 
     fn explain<T: Tokens<S>>(alloc: Global, tokens: &mut T) -> Result<Option<Refusal>> {
@@ -244,7 +244,7 @@ impl Serialize for Server {
                 ),
             ),
         );
-        give_fields(&fields, out)
+        serialize_fields(&fields, out)
     }
 
     fn key<'k>(&'k self, room: &'k mut KeyRoom) -> Option<&'k str> {
@@ -260,7 +260,7 @@ struct SiteBuilder {
     servers: Option<Vec<Server>>,
 }
 
-impl<S: Lent> Builder<S> for SiteBuilder {
+impl<S: InputStr> Builder<S> for SiteBuilder {
     type Built = Site;
 
     ghost shape = { record {
@@ -297,7 +297,7 @@ impl<S: Lent> Builder<S> for SiteBuilder {
             }
             _ => {
                 tokens.skip()?;
-                return Err(refusal(ErrorCode::TypeUnmatched));
+                return Err(error_without_place(ErrorCode::TypeUnmatched));
             }
         }
         Ok(())
@@ -313,7 +313,7 @@ impl<S: Lent> Builder<S> for SiteBuilder {
     }
 }
 
-impl<S: Lent> DeserializeFrom<S> for Site {
+impl<S: InputStr> DeserializeFrom<S> for Site {
     ghost datum = { λ v. struct_datum ⟦<SiteBuilder as Builder<S>>⟧.shape (⟦<SiteBuilder as Builder<S>>⟧.values v) };
 
     ghost from_tree = { spec_read_struct ⟦<SiteBuilder as Builder<S>>⟧.shape };
@@ -322,8 +322,8 @@ impl<S: Lent> DeserializeFrom<S> for Site {
         read_struct::<S, SiteBuilder, T>(alloc, tokens)
     }
 
-    fn found<T: Tokens<S>>(alloc: Global, tokens: &mut T) -> Result<Option<Site>> {
-        find_struct::<S, SiteBuilder, T>(alloc, tokens)
+    fn try_deserialize<T: Tokens<S>>(alloc: Global, tokens: &mut T) -> Result<Option<Site>> {
+        try_read_struct::<S, SiteBuilder, T>(alloc, tokens)
     }
 }
 
@@ -334,7 +334,7 @@ struct SiteSeen {
     servers: bool,
 }
 
-impl<S: Lent> ExplainMembers<S> for SiteSeen {
+impl<S: InputStr> ExplainMembers<S> for SiteSeen {
     ghost reading = { struct_reading true (field_reading (codes "name") ⟦<String as Explain<S>>⟧.refused true
         ∷ field_reading (codes "servers") ⟦<Vec<Server> as Explain<S>>⟧.refused true
         ∷ []) };
@@ -373,7 +373,7 @@ impl<S: Lent> ExplainMembers<S> for SiteSeen {
     }
 }
 
-impl<S: Lent> Explain<S> for Site {
+impl<S: InputStr> Explain<S> for Site {
     ghost refused = { object_refused ⟦<SiteSeen as ExplainMembers<S>>⟧.reading (false ∷ false ∷ []) };
 
     fn explain<T: Tokens<S>>(alloc: Global, tokens: &mut T) -> Result<Option<Refusal>> {
@@ -399,7 +399,7 @@ impl Serialize for Site {
                 value: &self.servers,
             },
         );
-        give_fields(&fields, out)
+        serialize_fields(&fields, out)
     }
 
     fn key<'k>(&'k self, room: &'k mut KeyRoom) -> Option<&'k str> {

@@ -2,7 +2,7 @@
 use Rattle.std.specs.Prelude.{ℕ, ℤ, List, Option, None, Some, Result, Ok, Err, option_and_then}
 use Rattle.json_grammar.specs.Tree.{Tree, null, num}
 use Rattle.json_number.specs.Integers.{in_i64, in_u64}
-use Rattle.json_doc.specs.Readings.{integer_of}
+use Rattle.json_doc.specs.Readings.{integer_in_tree}
 
 -- the tree of the value, where there is one, and null where there is none
 abbrev pub option_tree : {V : Type 0} → (V → Tree) → Option V → Tree
@@ -26,7 +26,7 @@ spelling _ = None
 
 -- the integer of the number, where it lies in `i64`, and where it lies in `u64`
 abbrev pub i64_of : Tree → Option ℤ
-i64_of t = option_and_then in_i64 (integer_of t)
+i64_of t = option_and_then in_i64 (integer_in_tree t)
 
 abbrev pub u64_of : Tree → Option ℕ
-u64_of t = option_and_then in_u64 (integer_of t)
+u64_of t = option_and_then in_u64 (integer_in_tree t)

@@ -5,8 +5,8 @@ ghost use Rattle.json_value.specs.Seen.{seen};
 ghost use Rattle.json_access.specs.Trees.{spelling};
 ghost use Rattle.json_io.specs.Errors.{OnlyNoMemory};
 
+use json_io::Result;
 use json_number::RawNumber;
-use json_text::Result;
 use json_value::View;
 use std::alloc::Global;
 

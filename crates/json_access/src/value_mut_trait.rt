@@ -15,7 +15,7 @@ ghost use Rattle.json_value.specs.declared.value.Value.{Value, Array as ArrayVal
 ghost use Rattle.json_io.specs.Errors.{OnlyNoMemory};
 
 use crate::value_trait::JsonValueTrait;
-use json_text::Result;
+use json_io::Result;
 use json_value::{Array, Index, Object, PointerNode, Value};
 use std::alloc::Global;
 
@@ -69,7 +69,7 @@ pub trait JsonValueMutTrait: JsonValueTrait {
             × Exchanges (I.step index ∷ []) x w (held self.old) (held n)))
             (λ n. (Self.tree n ≡ Self.tree self.old)
             × KeptAlong (I.step index ∷ []) Same (held self.old) (held n))) }
-        ensures stands { IfOk result (λ o. option_map (λ x. tree_of x.now) o
+        ensures leads { IfOk result (λ o. option_map (λ x. tree_of x.now) o
             ≡ child (I.step index) (Self.tree self.old)) }
         ensures only { OnlyNoMemory result };
 
@@ -83,7 +83,7 @@ pub trait JsonValueMutTrait: JsonValueTrait {
             × Exchanges (steps_of path.now) x w (held self.old) (held n)))
             (λ n. (Self.tree n ≡ Self.tree self.old)
             × KeptAlong (steps_of path.now) Same (held self.old) (held n))) }
-        ensures stands { IfOk result (λ o. option_map (λ x. tree_of x.now) o
+        ensures leads { IfOk result (λ o. option_map (λ x. tree_of x.now) o
             ≡ tree_at (steps_of path.now) (Self.tree self.old)) }
         ensures only { OnlyNoMemory result };
 

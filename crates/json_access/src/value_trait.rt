@@ -4,7 +4,7 @@ ghost use Rattle.json_grammar.specs.Tree.{Tree, boolean};
 ghost use Rattle.json_number.specs.Floats.{is_double};
 ghost use Rattle.json_number.specs.Literals.{raw_literal};
 ghost use Rattle.json_number.specs.Numbers.{value_of};
-ghost use Rattle.json_doc.specs.Readings.{type_of, bool_of, integer_of, string_of};
+ghost use Rattle.json_doc.specs.Readings.{type_of, bool_of, integer_in_tree, string_of};
 ghost use Rattle.json_doc.specs.declared.json_type.JsonType.TheVariants as kind;
 ghost use Rattle.json_value.specs.Denotes.{tree_of};
 ghost use Rattle.json_value.specs.Doubles.{double_in};
@@ -49,11 +49,11 @@ pub trait JsonValueTrait {
 
     /// The number, where it is an integer of `u64` or `i64`; none of another, nor of another kind.
     fn as_number(&self) -> Option<Number>
-        ensures { option_map value_of result ≡ integer_of (tree self.now) };
+        ensures { option_map value_of result ≡ integer_in_tree (tree self.now) };
 
     /// The literal of the number: as it was written, or the decimal text of an integer of `u64` or
     /// `i64`; none of another kind. Fails with `NoMemory` if memory runs out.
-    fn as_raw_number(&self, alloc: Global) -> json_text::Result<Option<RawNumber>>
+    fn as_raw_number(&self, alloc: Global) -> json_io::Result<Option<RawNumber>>
         ensures literal { IfOk result (λ o. option_map raw_literal o
             ≡ spelling (tree self.now)) }
         ensures only { OnlyNoMemory result };
@@ -100,7 +100,7 @@ pub trait JsonValueTrait {
     /// Returns whether it is a number that is no integer of `u64` or `i64`, and the double nearest to
     /// it is finite.
     fn is_f64(&self) -> bool
-        ensures { result ≡ is_double (integer_of (tree self.now)) (double_in (tree self.now)) }
+        ensures { result ≡ is_double (integer_in_tree (tree self.now)) (double_in (tree self.now)) }
     {
         !self.is_i64() && !self.is_u64() && self.as_f64().is_some()
     }
@@ -190,7 +190,7 @@ impl<'a> JsonValueTrait for View<'a> {
         view.as_f64()
     }
 
-    fn as_raw_number(&self, alloc: Global) -> json_text::Result<Option<RawNumber>> {
+    fn as_raw_number(&self, alloc: Global) -> json_io::Result<Option<RawNumber>> {
         raw_number(*self, alloc)
     }
 }
@@ -223,7 +223,7 @@ impl JsonValueTrait for Value {
         view.as_f64()
     }
 
-    fn as_raw_number(&self, alloc: Global) -> json_text::Result<Option<RawNumber>> {
+    fn as_raw_number(&self, alloc: Global) -> json_io::Result<Option<RawNumber>> {
         raw_number(self.view(), alloc)
     }
 }
@@ -251,7 +251,7 @@ impl<V: JsonValueTrait> JsonValueTrait for &V {
         (**self).as_f64()
     }
 
-    fn as_raw_number(&self, alloc: Global) -> json_text::Result<Option<RawNumber>> {
+    fn as_raw_number(&self, alloc: Global) -> json_io::Result<Option<RawNumber>> {
         (**self).as_raw_number(alloc)
     }
 }
@@ -294,7 +294,7 @@ impl<V: JsonValueTrait> JsonValueTrait for Option<V> {
         }
     }
 
-    fn as_raw_number(&self, alloc: Global) -> json_text::Result<Option<RawNumber>> {
+    fn as_raw_number(&self, alloc: Global) -> json_io::Result<Option<RawNumber>> {
         match self {
             Some(value) => value.as_raw_number(alloc),
             None => Ok(None),
@@ -340,7 +340,7 @@ impl<V: JsonValueTrait, E> JsonValueTrait for Result<V, E> {
         }
     }
 
-    fn as_raw_number(&self, alloc: Global) -> json_text::Result<Option<RawNumber>> {
+    fn as_raw_number(&self, alloc: Global) -> json_io::Result<Option<RawNumber>> {
         match self {
             Ok(value) => value.as_raw_number(alloc),
             Err(_) => Ok(None),

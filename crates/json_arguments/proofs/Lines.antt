@@ -6,15 +6,15 @@ use Rattle.std.proofs.lemmas.List.{map-append}
 use Rattle.json_arguments.specs.declared.verb.Verb.{Verb}
 use Rattle.json_arguments.specs.declared.operand.OperandKind.{OperandKind}
 use Rattle.json_arguments.specs.Arguments.{verb_in, setting_in, takes, source_in, is_option_argument, operands_of}
-use Rattle.json_arguments.specs.declared.line.Role.TheVariants as role
+use Rattle.json_arguments.specs.declared.line.ArgumentRole.TheVariants as role
 use Rattle.json_arguments.specs.declared.setting.Setting.{Setting}
 use Rattle.json_grammar.specs.Tree.{Tree}
 use Rattle.json_value.specs.declared.value.Value.{Value}
 use Rattle.json_value.specs.Denotes.{tree_of}
 use Rattle.json_arguments.specs.Operands.{SpellsOperand}
-use Rattle.json_arguments.specs.declared.line.Line.{Line}
-use Rattle.json_arguments.specs.declared.line.Role.{Role}
-use Rattle.json_arguments.specs.CommandLine.{Asked, operands_asked, missing_operand, command_role, operand_role, role_of, role_in, add, with_argument, MayTake, MayFollow}
+use Rattle.json_arguments.specs.declared.line.ArgumentLine.{ArgumentLine}
+use Rattle.json_arguments.specs.declared.line.ArgumentRole.{ArgumentRole}
+use Rattle.json_arguments.specs.CommandLine.{ParsedArguments, operands_asked, missing_operand, command_role, operand_role, argument_role, role_in, add_argument, with_argument, MayTake, MayFollow}
 use Rattle.json_arguments.specs.Line.{SpellAll, HoldsAsked, TakesArgument}
 
 -- as many words as trees
@@ -64,8 +64,8 @@ pub files_length : (fs : List (Bor (List ℕ))) (ws : List (List ℕ)) → map (
 files_length fs ws e = sym (length-words fs) ∙ ap length e
 
 -- an argument that was taken by its role, or was not
-pub followed : (line : Line) (s : Asked) (w : List ℕ) (r : Role) → r ≡ role_in s w → TakesArgument line s w r → MayFollow s w × HoldsAsked line (with_argument s w)
-followed line s w r e t = (subst (MayTake s w) e t.may, subst (λ q. HoldsAsked line (add s w q)) e t.holds)
+pub followed : (line : ArgumentLine) (s : ParsedArguments) (w : List ℕ) (r : ArgumentRole) → r ≡ role_in s w → TakesArgument line s w r → MayFollow s w × HoldsAsked line (with_argument s w)
+followed line s w r e t = (subst (MayTake s w) e t.may, subst (λ q. HoldsAsked line (add_argument s w q)) e t.holds)
 
 pub on_ok_then : {A E : Type 0} {P Q : Type 0} (r : Result A E) → (P → Q) → OnOk r P → OnOk r Q
 on_ok_then (Ok x) f p = f p

@@ -7,10 +7,10 @@ use Rattle.json_model.proofs.Printing.{shown_text}
 use Rattle.json_arguments.specs.declared.verb.Verb.{Verb}
 use Rattle.json_arguments.specs.declared.operand.OperandKind.{OperandKind}
 use Rattle.json_arguments.specs.declared.operand.OperandKind.TheVariants as kind
-use Rattle.json_arguments.specs.declared.line.Role.TheVariants as role
+use Rattle.json_arguments.specs.declared.line.ArgumentRole.TheVariants as role
 use Rattle.json_grammar.proofs.Values.{one_tree}
 use Rattle.json_arguments.specs.Operands.{IsOperand, SpellsTree, has_form, taken_verbatim}
-use Rattle.json_arguments.specs.CommandLine.{role_of}
+use Rattle.json_arguments.specs.CommandLine.{argument_role}
 
 -- a string where a string is wanted, and else an array
 abbrev pub example : OperandKind → List ℕ
@@ -33,7 +33,7 @@ example_formed kind.Text = (text (91 ∷ 93 ∷ []), record { text = refl; form 
 example_formed kind.Value = (list no_trees, record { text = empty_list; form = refl })
 example_formed kind.Patch = (list no_trees, record { text = empty_list; form = refl })
 
-pub example_is_operand : (v : Verb) (ended : Bool) (k : OperandKind) (missing : Option OperandKind) → missing ≡ Some k → role_of v ended missing (example k) ≡ role.Operand k
+pub example_is_operand : (v : Verb) (ended : Bool) (k : OperandKind) (missing : Option OperandKind) → missing ≡ Some k → argument_role v ended missing (example k) ≡ role.Operand k
 example_is_operand v ended kind.Key missing e = rw e refl
 example_is_operand v ended kind.Step missing e = rw e refl
 example_is_operand v ended kind.Edits missing e = rw e refl

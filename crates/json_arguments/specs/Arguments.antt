@@ -6,9 +6,9 @@ use Rattle.json_arguments.specs.declared.verb.Verb.{Verb}
 use Rattle.json_arguments.specs.declared.verb.Verb.TheVariants as verb
 use Rattle.json_arguments.specs.declared.operand.OperandKind.{OperandKind}
 use Rattle.json_arguments.specs.declared.operand.OperandKind.TheVariants as kind
-use Rattle.json_arguments.specs.declared.setting.Layout.{Layout}
-use Rattle.json_arguments.specs.declared.setting.Layout.TheVariants.{Compact, Spaces, Tab}
-use Rattle.json_arguments.specs.declared.setting.InputForm.TheVariants.{Lines, Stream}
+use Rattle.json_arguments.specs.declared.setting.RequestedLayout.{RequestedLayout}
+use Rattle.json_arguments.specs.declared.setting.RequestedLayout.TheVariants.{Compact, Spaces, Tab}
+use Rattle.json_arguments.specs.declared.setting.RequestedInput.TheVariants.{Lines, Stream}
 use Rattle.json_arguments.specs.declared.setting.Setting.{Setting}
 use Rattle.json_arguments.specs.declared.setting.Setting.TheVariants as setting
 use Rattle.json_arguments.specs.declared.setting.Settings.{Settings}
@@ -43,7 +43,7 @@ operands_of verb.Merge = kind.Patch ∷ []
 operands_of _ = []
 
 -- the layout that a word asks for
-abbrev pub layout_in : List ℕ → Option Layout
+abbrev pub layout_in : List ℕ → Option RequestedLayout
 layout_in w =
     cond (bytes_eq w (codes "--compact") || bytes_eq w (codes "-c")) (Some Compact)
     (cond (bytes_eq w (codes "--pretty")) (Some (Spaces 2))

@@ -3,12 +3,12 @@ use Rattle.std.specs.Prelude.{◌≡◌, ℕ, ◌+◌, ◌<◌, ⊤, true, List,
 use Rattle.json_arguments.specs.declared.arguments.Arguments.{Arguments}
 use Rattle.json_arguments.specs.declared.problem.ArgumentsError.{ArgumentsError}
 use Rattle.json_arguments.specs.declared.problem.ArgumentsError.TheVariants.{OutOfMemory, Invalid, Incomplete}
-use Rattle.json_arguments.specs.CommandLine.{Asked, nothing_asked, is_complete, with_arguments, IsCommandLine, BeginsCommandLine}
+use Rattle.json_arguments.specs.CommandLine.{ParsedArguments, nothing_asked, is_complete, with_arguments, IsCommandLine, BeginsCommandLine}
 use Rattle.json_value.specs.Denotes.{tree_of}
 use Rattle.json_arguments.specs.Line.{SpellAll}
 
 -- they are what is asked for, and nothing is missing
-pub record Finishes (a : Arguments) (s : Asked) : Type 0 where
+pub record Finishes (a : Arguments) (s : ParsedArguments) : Type 0 where
   pub complete : is_complete s ≡ true
   pub verb : Some a.verb ≡ s.verb
   pub settings : a.settings ≡ s.settings

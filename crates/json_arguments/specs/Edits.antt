@@ -33,15 +33,15 @@ edits_tree v operands = list (tree_and (edit_tree v operands) no_trees)
 -- ---- the pointer to the place of an edit
 
 -- the string that the first operand is
-abbrev pub pointer_in : List Tree → Option (List ℕ)
-pointer_in [] = None
-pointer_in (t ∷ ts) = string_of t
+abbrev pub pointer_operand : List Tree → Option (List ℕ)
+pointer_operand [] = None
+pointer_operand (t ∷ ts) = string_of t
 
 -- the first operand is this pointer, and the path without steps is left in its place; or it is no string, and all is left
 abbrev pub SplitsPointer : List Tree → Option Pointer → List Tree → Type 0
-SplitsPointer ts (Some p) left = (option_and_then pointer_of (pointer_in ts) ≡ Some (pointer_tokens p)) × (left ≡ list no_trees ∷ drop 1 ts)
-SplitsPointer ts None left = (pointer_in ts ≡ None) × (left ≡ ts)
+SplitsPointer ts (Some p) left = (option_and_then pointer_of (pointer_operand ts) ≡ Some (pointer_tokens p)) × (left ≡ list no_trees ∷ drop 1 ts)
+SplitsPointer ts None left = (pointer_operand ts ≡ None) × (left ≡ ts)
 
 -- the first operand is a string and no pointer
 abbrev pub LacksPointer : List Tree → Type 0
-LacksPointer ts = (s : List ℕ) × (pointer_in ts ≡ Some s) × (pointer_of s ≡ None)
+LacksPointer ts = (s : List ℕ) × (pointer_operand ts ≡ Some s) × (pointer_of s ≡ None)

@@ -1,8 +1,8 @@
 -- What the arguments that were read so far hold of what they ask for.
 use Rattle.std.specs.Prelude.{◌≡◌, ℕ, ⊤, List, [], ◌∷◌, map, option_map}
-use Rattle.json_arguments.specs.declared.line.Line.{Line}
-use Rattle.json_arguments.specs.declared.line.Role.{Role}
-use Rattle.json_arguments.specs.CommandLine.{Asked, MayTake, add}
+use Rattle.json_arguments.specs.declared.line.ArgumentLine.{ArgumentLine}
+use Rattle.json_arguments.specs.declared.line.ArgumentRole.{ArgumentRole}
+use Rattle.json_arguments.specs.CommandLine.{ParsedArguments, MayTake, add_argument}
 use Rattle.json_grammar.specs.Tree.{Tree}
 use Rattle.json_value.specs.Denotes.{tree_of}
 use Rattle.json_arguments.specs.declared.operand.OperandKind.{OperandKind}
@@ -14,7 +14,7 @@ SpellAll [] [] = ⊤
 SpellAll ((kind, w) ∷ os) (t ∷ ts) = SpellsOperand kind w t × SpellAll os ts
 SpellAll _ _ = ⊥
 
-pub record HoldsAsked (line : Line) (s : Asked) : Type 0 where
+pub record HoldsAsked (line : ArgumentLine) (s : ParsedArguments) : Type 0 where
   pub verb : line.verb ≡ s.verb
   pub settings : line.settings ≡ s.settings
   pub ended : line.ended ≡ s.ended
@@ -24,6 +24,6 @@ pub record HoldsAsked (line : Line) (s : Asked) : Type 0 where
   pub files : map (λ f. f.now) line.files.items ≡ s.files
 
 -- an argument of this role may follow and was added
-pub record TakesArgument (line : Line) (s : Asked) (w : List ℕ) (r : Role) : Type 0 where
+pub record TakesArgument (line : ArgumentLine) (s : ParsedArguments) (w : List ℕ) (r : ArgumentRole) : Type 0 where
   pub may : MayTake s w r
-  pub holds : HoldsAsked line (add s w r)
+  pub holds : HoldsAsked line (add_argument s w r)

@@ -4,8 +4,8 @@ use Rattle.json_grammar.specs.Rules.{Rules}
 use Rattle.json_text.specs.Ruled.{usual_rules}
 use Rattle.json_arguments.specs.declared.verb.Verb.{Verb}
 use Rattle.json_arguments.specs.declared.verb.Verb.TheVariants.{Fmt}
-use Rattle.json_arguments.specs.declared.setting.Layout.{Layout}
-use Rattle.json_arguments.specs.declared.setting.Layout.TheVariants.{Compact, Spaces, Tab}
+use Rattle.json_arguments.specs.declared.setting.RequestedLayout.{RequestedLayout}
+use Rattle.json_arguments.specs.declared.setting.RequestedLayout.TheVariants.{Compact, Spaces, Tab}
 use Rattle.json_arguments.specs.declared.setting.Settings.{Settings}
 
 -- n spaces, at most 8
@@ -13,17 +13,17 @@ abbrev pub spaces_up_to_8 : ℕ → List ℕ
 spaces_up_to_8 n = replicate (min n 8) 32
 
 -- the indent of a layout
-abbrev pub indent_text : Layout → Option (List ℕ)
+abbrev pub indent_text : RequestedLayout → Option (List ℕ)
 indent_text Compact = None
 indent_text (Spaces n) = Some (spaces_up_to_8 n)
 indent_text Tab = Some (9 ∷ [])
 
 -- the layout if no option asks for one: two spaces for fmt, and compact for the other commands
-abbrev pub usual_layout : Verb → Layout
+abbrev pub usual_layout : Verb → RequestedLayout
 usual_layout Fmt = Spaces 2
 usual_layout _ = Compact
 
-abbrev pub command_layout : Settings → Verb → Layout
+abbrev pub command_layout : Settings → Verb → RequestedLayout
 command_layout s v = unwrap_or s.layout (usual_layout v)
 
 -- an edit in place keeps the layout of the file, if no option asks for a layout

@@ -2,11 +2,11 @@
 ghost use Rattle.std.specs.Prelude.{IfOk, IfErr};
 ghost use Rattle.json_arguments.specs.Asks.{ParsesTo, RefusesCommandLine};
 
-use crate::line::Line;
-use crate::problem::{ArgumentsError, Refusal};
+use crate::line::ArgumentLine;
+use crate::problem::{ArgumentsError, OperandError};
 use crate::setting::Settings;
 use crate::verb::Verb;
-use json_text::Words;
+use json_io::Words;
 use json_value::Value;
 use std::alloc::Global;
 
@@ -46,12 +46,12 @@ pub fn read_arguments(alloc: Global, words: &Words) -> Result<Arguments<'_>, Arg
     ensures ok { IfOk result (λ a. ParsesTo words.now a) }
     ensures err { IfErr result (λ e. RefusesCommandLine words.now e) }
 {
-    let mut line = Line::new(alloc);
+    let mut line = ArgumentLine::new(alloc);
     'words: for i in 0..words.len() {
         match line.take(alloc, words.word(i)) {
             Ok(()) => {}
-            Err(Refusal::OutOfMemory) => return Err(ArgumentsError::OutOfMemory),
-            Err(Refusal::Invalid(problem)) => {
+            Err(OperandError::OutOfMemory) => return Err(ArgumentsError::OutOfMemory),
+            Err(OperandError::Invalid(problem)) => {
                 return Err(ArgumentsError::Invalid { index: i, problem });
             }
         }

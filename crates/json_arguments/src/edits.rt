@@ -1,7 +1,7 @@
 // The edits that a command asks for.
 ghost use Rattle.std.specs.Prelude.{◌≡◌, ◌⊎◌, Some, None, length, drop, [], ◌∷◌, ◌<◌, map, option_map, IfSome, IfOk, IfErr};
-ghost use Rattle.json_arguments.specs.Edits.{edits_tree, edit_tree, pointer_in, SplitsPointer, LacksPointer};
-ghost use Rattle.json_arguments.specs.declared.problem.Refusal.TheVariants as Refusal;
+ghost use Rattle.json_arguments.specs.Edits.{edits_tree, edit_tree, pointer_operand, SplitsPointer, LacksPointer};
+ghost use Rattle.json_arguments.specs.declared.problem.OperandError.TheVariants as OperandError;
 ghost use Rattle.json_grammar.specs.Tree.{list, no_trees};
 ghost use Rattle.json_io.specs.Errors.{no_memory, OnlyNoMemory};
 ghost use Rattle.json_value.specs.Denotes.{tree_of};
@@ -9,18 +9,18 @@ ghost use Rattle.json_value.specs.Edits.{edit_of};
 ghost use Rattle.json_value.specs.EditTrees.{edits_in};
 
 use crate::operand::OperandKind;
-use crate::problem::{Problem, Refusal};
+use crate::problem::{OperandError, Problem};
 use crate::spelling::parse_pointer;
 use crate::verb::Verb;
 use json_data::from_value;
+use json_io::Result;
 use json_patch::Pointer;
-use json_text::Result;
 use json_value::{Edit, Value};
 use std::alloc::Global;
 
 // Returns the string that the first operand is.
 fn first_text(operands: &[Value]) -> Option<&str>
-    ensures text { option_map (λ s. s.now) result ≡ pointer_in (map tree_of operands.now) }
+    ensures text { option_map (λ s. s.now) result ≡ pointer_operand (map tree_of operands.now) }
     ensures some { IfSome result (λ _. 0 < length operands.now) }
 {
     match operands {
@@ -30,8 +30,8 @@ fn first_text(operands: &[Value]) -> Option<&str>
 }
 
 // The refusal of a path that is no pointer.
-fn no_pointer() -> Refusal {
-    Refusal::Invalid(Problem::WrongForm {
+fn no_pointer() -> OperandError {
+    OperandError::Invalid(Problem::WrongForm {
         kind: OperandKind::Path,
         element: None,
     })
@@ -81,21 +81,21 @@ fn edits_value(alloc: Global, verb: Verb, operands: Vec<Value>) -> Result<Value>
 /// no pointer, and with `OutOfMemory` if memory runs out.
 ///
 /// ```
-/// use json_arguments::{Verb, edits_of, split_pointer};
+/// use json_arguments::{Verb, requested_edits, split_pointer};
 /// use json_value::{Edit, Value};
 /// let operands = vec![in alloc; Value::from_static_str("/tags"), Value::new_bool(true)]?;
 /// let (pointer, operands) = split_pointer(alloc, operands).map_err(|_| "no pointer")?;
 /// assert_eq!(rt; pointer.ok_or("no pointer")?.to_text(alloc)?.as_str(), "/tags");
-/// let edits = edits_of(alloc, Verb::Push, operands)?;
+/// let edits = requested_edits(alloc, Verb::Push, operands)?;
 /// assert!(rt; matches!(edits.as_slice(), [Edit::Push { .. }]));
 /// ```
 pub fn split_pointer(
     alloc: Global,
     operands: Vec<Value>,
-) -> std::result::Result<(Option<Pointer>, Vec<Value>), Refusal>
+) -> std::result::Result<(Option<Pointer>, Vec<Value>), OperandError>
     ensures ok { IfOk result (λ r. SplitsPointer (map tree_of operands.items) r.0
         (map tree_of r.1.items)) }
-    ensures err { IfErr result (λ r. (r ≡ Refusal.OutOfMemory)
+    ensures err { IfErr result (λ r. (r ≡ OperandError.OutOfMemory)
         ⊎ LacksPointer (map tree_of operands.items)) }
 {
     let pointer = match first_text(&operands) {
@@ -108,7 +108,7 @@ pub fn split_pointer(
     };
     match replace_first(operands) {
         Ok(left) => Ok((Some(pointer), left)),
-        Err(_) => Err(Refusal::OutOfMemory),
+        Err(_) => Err(OperandError::OutOfMemory),
     }
 }
 
@@ -117,13 +117,13 @@ pub fn split_pointer(
 /// `TypeUnmatched` if they are no edits, and with `NoMemory` if memory runs out.
 ///
 /// ```
-/// use json_arguments::{Verb, edits_of};
+/// use json_arguments::{Verb, requested_edits};
 /// use json_value::{Edit, Value};
 /// let operands = vec![in alloc; Value::new_array(), Value::new_bool(true)]?;
-/// let edits = edits_of(alloc, Verb::Push, operands)?;
+/// let edits = requested_edits(alloc, Verb::Push, operands)?;
 /// assert!(rt; matches!(edits.as_slice(), [Edit::Push { .. }]));
 /// ```
-pub fn edits_of(alloc: Global, verb: Verb, operands: Vec<Value>) -> Result<Vec<Edit>>
+pub fn requested_edits(alloc: Global, verb: Verb, operands: Vec<Value>) -> Result<Vec<Edit>>
     ensures ok { IfOk result (λ edits. edits_in (edits_tree verb (map tree_of operands.items))
         ≡ Some (map edit_of edits.items)) }
     ensures err { IfErr result (λ e. (e ≡ no_memory)

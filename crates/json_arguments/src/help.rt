@@ -3,7 +3,7 @@ ghost use Rattle.std.specs.Prelude.{◌≡◌};
 ghost use Rattle.json_arguments.specs.Help.{help_asked};
 
 use crate::verb::Verb;
-use json_text::Words;
+use json_io::Words;
 
 /// Returns the command whose help the arguments ask for: its name and then `--help` or `-h`, and
 /// nothing more. Returns `None` for all else.

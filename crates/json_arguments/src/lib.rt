@@ -33,10 +33,10 @@ mod spelling;
 mod verb;
 
 pub use arguments::{Arguments, read_arguments};
-pub use edits::{edits_of, split_pointer};
+pub use edits::{requested_edits, split_pointer};
 pub use help::help_asked;
 pub use operand::{OperandKind, read_operand};
-pub use problem::{ArgumentsError, Missing, Problem, Refusal};
-pub use report::{arguments_report, file_report};
-pub use setting::{InputForm, Layout, Setting, Settings};
+pub use problem::{ArgumentsError, MissingArgument, OperandError, Problem};
+pub use report::{arguments_report, operand_file_report};
+pub use setting::{RequestedInput, RequestedLayout, Setting, Settings};
 pub use verb::Verb;

@@ -4,15 +4,16 @@ ghost use Rattle.json_io.specs.declared.error.ErrorCode.TheVariants.{NoMemory};
 ghost use Rattle.json_arguments.specs.Operands.{SpellsOperand, IsOperand, SpellsTree, has_form as formed, path_form, taken_verbatim};
 ghost use Rattle.json_patch.specs.Pointer.{pointer_of};
 ghost use Rattle.json_doc.specs.Docs.{doc_root, doc_tree};
-ghost use Rattle.json_arguments.specs.declared.problem.Refusal.TheVariants as Refusal;
+ghost use Rattle.json_arguments.specs.declared.problem.OperandError.TheVariants as OperandError;
 ghost use Rattle.json_command.specs.Input.{IsInput, IsValid};
 ghost use Rattle.json_text.specs.Ruled.{usual_rules};
 ghost use Rattle.json_value.specs.Denotes.{tree_of};
 
-use crate::problem::{Problem, Refusal};
+use crate::problem::{OperandError, Problem};
 use crate::spelling::{are_edits, first_unspelled, is_path, is_step, parse_pointer};
 use json_doc::{Doc, read_document_with};
-use json_text::{Error, ErrorCode, Place, Rules};
+use json_io::{Error, ErrorCode, Place};
+use json_text::Rules;
 use json_value::Value;
 use std::alloc::Global;
 use std::rc::Rc;
@@ -59,30 +60,30 @@ impl OperandKind {
 }
 
 // Returns the value of a document.
-fn root_value(alloc: Global, doc: &Rc<Doc>) -> Result<Value, Refusal>
+fn root_value(alloc: Global, doc: &Rc<Doc>) -> Result<Value, OperandError>
     ensures ok { IfOk result (λ v. tree_of v ≡ doc_tree doc.now.value (doc_root doc.now.value)) }
-    ensures only { IfErr result (λ r. r ≡ Refusal.OutOfMemory) }
+    ensures only { IfErr result (λ r. r ≡ OperandError.OutOfMemory) }
 {
     match Value::from_place(alloc, doc, doc.root()) {
         Ok(value) => Ok(value),
-        Err(_) => Err(Refusal::OutOfMemory),
+        Err(_) => Err(OperandError::OutOfMemory),
     }
 }
 
 // Returns the refusal of a text with an error.
-fn text_refusal(kind: OperandKind, error: Error) -> Refusal
-    ensures { (result ≡ Refusal.OutOfMemory) ⊎ (error.code ≢ NoMemory) }
+fn text_refusal(kind: OperandKind, error: Error) -> OperandError
+    ensures { (result ≡ OperandError.OutOfMemory) ⊎ (error.code ≢ NoMemory) }
 {
     match error.code {
-        ErrorCode::NoMemory => Refusal::OutOfMemory,
-        _ => Refusal::Invalid(Problem::NoText { kind, error }),
+        ErrorCode::NoMemory => OperandError::OutOfMemory,
+        _ => OperandError::Invalid(Problem::NoText { kind, error }),
     }
 }
 
 // Returns the value of a JSON text.
-fn read_text(alloc: Global, kind: OperandKind, text: &str) -> Result<Value, Refusal>
+fn read_operand_text(alloc: Global, kind: OperandKind, text: &str) -> Result<Value, OperandError>
     ensures ok { IfOk result (λ v. IsInput usual_rules text.now (tree_of v)) }
-    ensures err { IfErr result (λ r. (r ≡ Refusal.OutOfMemory)
+    ensures err { IfErr result (λ r. (r ≡ OperandError.OutOfMemory)
         ⊎ (¬ (IsValid usual_rules text.now))) }
 {
     if text.len() > MAX_BYTES {
@@ -90,7 +91,7 @@ fn read_text(alloc: Global, kind: OperandKind, text: &str) -> Result<Value, Refu
             code: ErrorCode::TooLarge,
             place: Place::None,
         };
-        return Err(Refusal::Invalid(Problem::NoText { kind, error }));
+        return Err(OperandError::Invalid(Problem::NoText { kind, error }));
     }
     match read_document_with(alloc, text, Rules::usual()) {
         Ok(doc) => root_value(alloc, &doc),
@@ -111,9 +112,9 @@ fn is_verbatim(kind: OperandKind, word: &str) -> bool
 
 // Whether a text is a JSON Pointer.
 #[tactic(auto, using(crate::proofs::Spelled::is_some_map))]
-fn is_pointer(alloc: Global, text: &str) -> Result<bool, Refusal>
+fn is_pointer(alloc: Global, text: &str) -> Result<bool, OperandError>
     ensures ok { IfOk result (λ b. b ≡ is_some (pointer_of text.now)) }
-    ensures only { IfErr result (λ r. r ≡ Refusal.OutOfMemory) }
+    ensures only { IfErr result (λ r. r ≡ OperandError.OutOfMemory) }
 {
     match parse_pointer(alloc, text) {
         Ok(pointer) => Ok(pointer.is_some()),
@@ -122,24 +123,24 @@ fn is_pointer(alloc: Global, text: &str) -> Result<bool, Refusal>
 }
 
 // Returns the value of an operand, whatever its form.
-fn read_spelled(alloc: Global, kind: OperandKind, word: &str) -> Result<Value, Refusal>
+fn read_spelled(alloc: Global, kind: OperandKind, word: &str) -> Result<Value, OperandError>
     ensures ok { IfOk result (λ v. SpellsTree kind word.now (tree_of v)) }
-    ensures err { IfErr result (λ r. (r ≡ Refusal.OutOfMemory)
+    ensures err { IfErr result (λ r. (r ≡ OperandError.OutOfMemory)
         ⊎ (¬ (IsOperand kind word.now))) }
 {
     if !is_verbatim(kind, word) {
-        return read_text(alloc, kind, word);
+        return read_operand_text(alloc, kind, word);
     }
     match Value::copy_str(alloc, word) {
         Ok(value) => Ok(value),
-        Err(_) => Err(Refusal::OutOfMemory),
+        Err(_) => Err(OperandError::OutOfMemory),
     }
 }
 
 // Whether a path has its form.
-fn is_path_form(alloc: Global, word: &str, value: &Value) -> Result<bool, Refusal>
+fn is_path_form(alloc: Global, word: &str, value: &Value) -> Result<bool, OperandError>
     ensures ok { IfOk result (λ b. b ≡ path_form word.now (tree_of value.now)) }
-    ensures only { IfErr result (λ r. r ≡ Refusal.OutOfMemory) }
+    ensures only { IfErr result (λ r. r ≡ OperandError.OutOfMemory) }
 {
     if is_verbatim(OperandKind::Path, word) {
         is_pointer(alloc, word)
@@ -149,9 +150,14 @@ fn is_path_form(alloc: Global, word: &str, value: &Value) -> Result<bool, Refusa
 }
 
 // Whether the value of a word has the form of the operand.
-fn has_form(alloc: Global, kind: OperandKind, word: &str, value: &Value) -> Result<bool, Refusal>
+fn has_form(
+    alloc: Global,
+    kind: OperandKind,
+    word: &str,
+    value: &Value,
+) -> Result<bool, OperandError>
     ensures ok { IfOk result (λ b. b ≡ formed kind word.now (tree_of value.now)) }
-    ensures only { IfErr result (λ r. r ≡ Refusal.OutOfMemory) }
+    ensures only { IfErr result (λ r. r ≡ OperandError.OutOfMemory) }
 {
     match kind {
         OperandKind::Value | OperandKind::Text | OperandKind::Patch => Ok(true),
@@ -175,9 +181,9 @@ fn has_form(alloc: Global, kind: OperandKind, word: &str, value: &Value) -> Resu
 /// assert_eq!(rt; path.view().text(), Some("/tags/0"));
 /// assert!(rt; read_operand(alloc, OperandKind::Step, "1.5").is_err());
 /// ```
-pub fn read_operand(alloc: Global, kind: OperandKind, word: &str) -> Result<Value, Refusal>
+pub fn read_operand(alloc: Global, kind: OperandKind, word: &str) -> Result<Value, OperandError>
     ensures ok { IfOk result (λ v. SpellsOperand kind word.now (tree_of v)) }
-    ensures err { IfErr result (λ r. (r ≡ Refusal.OutOfMemory)
+    ensures err { IfErr result (λ r. (r ≡ OperandError.OutOfMemory)
         ⊎ (¬ (IsOperand kind word.now))) }
 {
     let value = read_spelled(alloc, kind, word)?;
@@ -185,5 +191,5 @@ pub fn read_operand(alloc: Global, kind: OperandKind, word: &str) -> Result<Valu
         return Ok(value);
     }
     let element = first_unspelled(alloc, kind, &value);
-    Err(Refusal::Invalid(Problem::WrongForm { kind, element }))
+    Err(OperandError::Invalid(Problem::WrongForm { kind, element }))
 }

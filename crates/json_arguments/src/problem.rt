@@ -1,6 +1,6 @@
 // What is wrong with arguments.
 use crate::operand::OperandKind;
-use json_text::Error;
+use json_io::Error;
 
 /// What is wrong with an argument.
 ///
@@ -48,13 +48,13 @@ pub enum Problem {
 /// Why an argument is not taken.
 ///
 /// ```
-/// use json_arguments::{OperandKind, Problem, Refusal, read_operand};
+/// use json_arguments::{OperandKind, Problem, OperandError, read_operand};
 /// let refusal = read_operand(alloc, OperandKind::Path, "[\"a\", 0.5]").err();
 /// let problem = Problem::WrongForm { kind: OperandKind::Path, element: Some(1) };
-/// assert_eq!(rt; refusal, Some(Refusal::Invalid(problem)));
+/// assert_eq!(rt; refusal, Some(OperandError::Invalid(problem)));
 /// ```
 #[derive(Clone, Copy, Debug, PartialEq, Eq)]
-pub enum Refusal {
+pub enum OperandError {
     /// Memory ran out.
     OutOfMemory,
     /// The argument is not valid where it is.
@@ -64,13 +64,13 @@ pub enum Refusal {
 /// What is missing after the last argument.
 ///
 /// ```
-/// use json_arguments::{ArgumentsError, Missing, read_arguments};
+/// use json_arguments::{ArgumentsError, MissingArgument, read_arguments};
 /// use json_text::Words;
 /// let error = read_arguments(alloc, &Words::new(alloc)).err().ok_or("valid")?;
-/// assert_eq!(rt; error, ArgumentsError::Incomplete(Missing::Command));
+/// assert_eq!(rt; error, ArgumentsError::Incomplete(MissingArgument::Command));
 /// ```
 #[derive(Clone, Copy, Debug, PartialEq, Eq)]
-pub enum Missing {
+pub enum MissingArgument {
     /// The command.
     Command,
     /// An operand of the command.
@@ -84,13 +84,13 @@ pub enum Missing {
 /// Why arguments are refused.
 ///
 /// ```
-/// use json_arguments::{ArgumentsError, Missing, OperandKind, read_arguments};
+/// use json_arguments::{ArgumentsError, MissingArgument, OperandKind, read_arguments};
 /// use json_text::Words;
 /// let mut words = Words::new(alloc);
 /// words.push("push")?;
 /// words.push("[]")?;
 /// let error = read_arguments(alloc, &words).err().ok_or("valid")?;
-/// let missing = Missing::Operand(OperandKind::Value);
+/// let missing = MissingArgument::Operand(OperandKind::Value);
 /// assert_eq!(rt; error, ArgumentsError::Incomplete(missing));
 /// ```
 #[derive(Clone, Copy, Debug, PartialEq, Eq)]
@@ -105,5 +105,5 @@ pub enum ArgumentsError {
         problem: Problem,
     },
     /// No argument is wrong, and this is missing.
-    Incomplete(Missing),
+    Incomplete(MissingArgument),
 }

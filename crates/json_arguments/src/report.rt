@@ -1,9 +1,9 @@
 // What is reported of arguments that are refused.
 use crate::operand::OperandKind;
-use crate::problem::{ArgumentsError, Missing, Problem};
+use crate::problem::{ArgumentsError, MissingArgument, Problem};
 use crate::setting::Setting;
 use crate::verb::Verb;
-use json_text::{Error, Words, fault_text};
+use json_io::{Error, Words, fault_text};
 use std::alloc::{AllocError, Global};
 use strsim::levenshtein;
 
@@ -71,7 +71,7 @@ fn suggest(text: &mut String, near: Option<&str>) -> Result<(), AllocError> {
 }
 
 // Returns the name of an option with the equals sign, if it has one.
-fn name_of(word: &str) -> &str {
+fn option_name(word: &str) -> &str {
     match word.split_once('=') {
         Some((name, _)) => name,
         None => word,
@@ -107,7 +107,7 @@ fn unknown_option(alloc: Global, word: &str) -> Result<String, AllocError> {
     if is_option_of_another(word) {
         return format!(in alloc; "the command has no option `{word}`");
     }
-    if let Some(wanted) = value_wanted(name_of(word)) {
+    if let Some(wanted) = value_wanted(option_name(word)) {
         return format!(in alloc; "`{word}`: the option {wanted}");
     }
     let mut text = format!(in alloc; "there is no option `{word}`")?;
@@ -149,7 +149,7 @@ fn late_option(alloc: Global, word: &str) -> Result<String, AllocError> {
 }
 
 // Returns whether a word needs no quotes in a shell and no escape in a JSON string.
-fn is_plain(word: &str) -> bool {
+fn is_plain_word(word: &str) -> bool {
     let plain = word.bytes().all(
         |byte| matches!(byte, b'a'..=b'z' | b'A'..=b'Z' | b'0'..=b'9' | b'_' | b'.'),
     );
@@ -158,7 +158,7 @@ fn is_plain(word: &str) -> bool {
 
 // Returns the line that says how a word that is no JSON text may be meant, or nothing.
 fn text_hint(alloc: Global, kind: OperandKind, word: &str) -> Result<String, AllocError> {
-    if !is_plain(word) {
+    if !is_plain_word(word) {
         return Ok(String::new(alloc));
     }
     match kind {
@@ -239,12 +239,12 @@ fn problem_text(alloc: Global, word: &str, problem: &Problem) -> Result<String, 
 }
 
 // Returns what is missing.
-fn missing_text(alloc: Global, missing: Missing) -> Result<String, AllocError> {
+fn missing_text(alloc: Global, missing: MissingArgument) -> Result<String, AllocError> {
     match missing {
-        Missing::Command => format!(in alloc; "there is no command"),
-        Missing::Operand(kind) => format!(in alloc; "{} is missing", kind.name()),
-        Missing::Width => format!(in alloc; "the number after `--indent` is missing"),
-        Missing::File => format!(in alloc; "a file to change in place is missing"),
+        MissingArgument::Command => format!(in alloc; "there is no command"),
+        MissingArgument::Operand(kind) => format!(in alloc; "{} is missing", kind.name()),
+        MissingArgument::Width => format!(in alloc; "the number after `--indent` is missing"),
+        MissingArgument::File => format!(in alloc; "a file to change in place is missing"),
     }
 }
 
@@ -300,16 +300,16 @@ pub fn arguments_report(
 /// file and what is wrong with it; and a newline. Fails if memory runs out.
 ///
 /// ```
-/// use json_arguments::{OperandKind, Problem, file_report};
+/// use json_arguments::{OperandKind, Problem, operand_file_report};
 /// use json_text::Words;
 /// let mut words = Words::new(alloc);
 /// words.push("edit")?;
 /// let problem = Problem::WrongForm { kind: OperandKind::Edits, element: Some(1) };
-/// let report = file_report(alloc, &words, "e.json", &problem)?;
+/// let report = operand_file_report(alloc, &words, "e.json", &problem)?;
 /// let expected = "mezdruk edit: e.json: element 1 of EDITS is no edit\n";
 /// assert_eq!(rt; report.as_str(), expected);
 /// ```
-pub fn file_report(
+pub fn operand_file_report(
     alloc: Global,
     words: &Words,
     file: &str,

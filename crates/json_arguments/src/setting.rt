@@ -9,12 +9,12 @@ use json_command::option_number;
 /// How the texts of values are laid out.
 ///
 /// ```
-/// use json_arguments::Layout;
-/// assert_eq!(rt; Layout::Spaces(2).indent(), Some("  "));
-/// assert_eq!(rt; Layout::Compact.indent(), None);
+/// use json_arguments::RequestedLayout;
+/// assert_eq!(rt; RequestedLayout::Spaces(2).indent(), Some("  "));
+/// assert_eq!(rt; RequestedLayout::Compact.indent(), None);
 /// ```
 #[derive(Clone, Copy, Debug, PartialEq, Eq)]
-pub enum Layout {
+pub enum RequestedLayout {
     /// Without whitespace.
     Compact,
     /// Indented by this many spaces.
@@ -26,12 +26,12 @@ pub enum Layout {
 /// Which documents an input has.
 ///
 /// ```
-/// use json_arguments::{InputForm, Setting};
-/// let setting = Setting::Input(InputForm::Lines);
-/// assert!(rt; setting != Setting::Input(InputForm::Stream));
+/// use json_arguments::{RequestedInput, Setting};
+/// let setting = Setting::Input(RequestedInput::Lines);
+/// assert!(rt; setting != Setting::Input(RequestedInput::Stream));
 /// ```
 #[derive(Clone, Copy, Debug, PartialEq, Eq)]
-pub enum InputForm {
+pub enum RequestedInput {
     /// One document in each line.
     Lines,
     /// Documents one after another.
@@ -41,13 +41,13 @@ pub enum InputForm {
 /// What one option asks for.
 ///
 /// ```
-/// use json_arguments::{Layout, Setting};
-/// assert!(rt; Setting::Layout(Layout::Tab) != Setting::SortKeys);
+/// use json_arguments::{RequestedLayout, Setting};
+/// assert!(rt; Setting::Layout(RequestedLayout::Tab) != Setting::SortKeys);
 /// ```
 #[derive(Clone, Copy, Debug, PartialEq, Eq)]
 pub enum Setting {
     /// A layout.
-    Layout(Layout),
+    RequestedLayout(RequestedLayout),
     /// Members in the order of their keys.
     SortKeys,
     /// Input in which the keys of each object differ.
@@ -61,13 +61,13 @@ pub enum Setting {
     /// The files changed in place.
     InPlace,
     /// Several documents in each input.
-    Input(InputForm),
+    Input(RequestedInput),
 }
 
 /// What the options of a command ask for, each at most once.
 ///
 /// ```
-/// use json_arguments::{Layout, read_arguments};
+/// use json_arguments::{RequestedLayout, read_arguments};
 /// use json_text::Words;
 /// let mut words = Words::new(alloc);
 /// for word in ["fmt", "--indent=4", "--sort-keys", "--depth=9"] {
@@ -75,14 +75,14 @@ pub enum Setting {
 /// }
 /// let arguments = read_arguments(alloc, &words).map_err(|_| "not valid")?;
 /// let settings = arguments.settings;
-/// assert_eq!(rt; settings.layout, Some(Layout::Spaces(4)));
+/// assert_eq!(rt; settings.layout, Some(RequestedLayout::Spaces(4)));
 /// assert!(rt; settings.sorted && !settings.unique);
 /// assert_eq!(rt; settings.rules().depth(), 9);
 /// ```
 #[derive(Clone, Copy, Debug, PartialEq, Eq)]
 pub struct Settings {
     /// The layout, if one is asked for.
-    pub layout: Option<Layout>,
+    pub layout: Option<RequestedLayout>,
     /// Whether members are sorted by their keys.
     pub sorted: bool,
     /// Whether the keys of each object have to differ.
@@ -96,7 +96,7 @@ pub struct Settings {
     /// Whether files are changed in place.
     pub in_place: bool,
     /// Which documents each input has, if that is asked for.
-    pub input: Option<InputForm>,
+    pub input: Option<RequestedInput>,
 }
 
 /// The number of spaces that one digit asks for, which is 8 at most.
@@ -110,16 +110,16 @@ pub(crate) fn width_of(digits: &[u8]) -> Option<u8>
 }
 
 // The layout that a word asks for.
-fn layout_of(word: &str) -> Option<Layout>
+fn requested_layout(word: &str) -> Option<RequestedLayout>
     ensures { result ≡ layout_in word.now }
 {
     match word {
-        "--compact" | "-c" => Some(Layout::Compact),
-        "--pretty" => Some(Layout::Spaces(2)),
-        "--tabs" => Some(Layout::Tab),
+        "--compact" | "-c" => Some(RequestedLayout::Compact),
+        "--pretty" => Some(RequestedLayout::Spaces(2)),
+        "--tabs" => Some(RequestedLayout::Tab),
         _ => {
             let width = width_of(word.as_bytes().strip_prefix(b"--indent=")?)?;
-            Some(Layout::Spaces(width))
+            Some(RequestedLayout::Spaces(width))
         }
     }
 }
@@ -135,7 +135,7 @@ fn depth_of(word: &str) -> Option<u32>
 fn setting_with_value(word: &str) -> Option<Setting>
     ensures { result ≡ value_setting word.now }
 {
-    if let Some(layout) = layout_of(word) {
+    if let Some(layout) = requested_layout(word) {
         return Some(Setting::Layout(layout));
     }
     let depth = depth_of(word)?;
@@ -153,8 +153,8 @@ impl Setting {
             "--raw" | "-r" => Some(Setting::Raw),
             "--string" => Some(Setting::StringValue),
             "-i" | "--in-place" => Some(Setting::InPlace),
-            "--lines" => Some(Setting::Input(InputForm::Lines)),
-            "--stream" => Some(Setting::Input(InputForm::Stream)),
+            "--lines" => Some(Setting::Input(RequestedInput::Lines)),
+            "--stream" => Some(Setting::Input(RequestedInput::Stream)),
             _ => setting_with_value(word),
         }
     }
@@ -229,7 +229,7 @@ impl Settings {
     fn reads_stream(self) -> bool
         ensures { result ≡ is_stream self }
     {
-        self.input == Some(InputForm::Stream)
+        self.input == Some(RequestedInput::Stream)
     }
 
     /// Returns whether there would be a stream, and an option that asks for other rules than the
@@ -239,7 +239,7 @@ impl Settings {
     {
         match setting {
             Setting::UniqueKeys | Setting::Depth(_) => self.reads_stream(),
-            Setting::Input(InputForm::Stream) => self.unique || self.depth.is_some(),
+            Setting::Input(RequestedInput::Stream) => self.unique || self.depth.is_some(),
             _ => false,
         }
     }

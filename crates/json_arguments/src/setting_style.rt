@@ -5,13 +5,13 @@ ghost use Rattle.json_arguments.specs.declared.verb.Verb.TheVariants as Verb;
 ghost use Rattle.json_layout.specs.Styles.{indent_of, is_sorted};
 ghost use Rattle.json_text.specs.Ruled.{rules_of};
 
-use crate::setting::{Layout, Settings};
+use crate::setting::{RequestedLayout, Settings};
 use crate::verb::Verb;
-use json_print::Style;
+use json_layout::Style;
 use json_text::Rules;
 
 // Returns `count` spaces, at most 8.
-fn spaces(count: u8) -> &'static str
+fn read_spaces(count: u8) -> &'static str
     ensures { result.now ≡ spaces_up_to_8 count }
 {
     match count {
@@ -27,15 +27,15 @@ fn spaces(count: u8) -> &'static str
     }
 }
 
-impl Layout {
+impl RequestedLayout {
     /// Returns the indent, or `None` without whitespace. There are 8 spaces at most.
     pub fn indent(self) -> Option<&'static str>
         ensures text { option_map (λ s. s.now) result ≡ indent_text self }
     {
         match self {
-            Layout::Compact => None,
-            Layout::Spaces(count) => Some(spaces(count)),
-            Layout::Tab => Some("\t"),
+            RequestedLayout::Compact => None,
+            RequestedLayout::Spaces(count) => Some(read_spaces(count)),
+            RequestedLayout::Tab => Some("\t"),
         }
     }
 }
@@ -43,13 +43,13 @@ impl Layout {
 impl Settings {
     /// Returns the layout for a command: two spaces for `fmt` and compact for the others if no
     /// option asks for one.
-    pub fn layout_for(self, verb: Verb) -> Layout
+    pub fn layout_for(self, verb: Verb) -> RequestedLayout
         ensures { result ≡ command_layout self verb }
     {
         match (self.layout, verb) {
             (Some(layout), _) => layout,
-            (None, Verb::Fmt) => Layout::Spaces(2),
-            (None, _) => Layout::Compact,
+            (None, Verb::Fmt) => RequestedLayout::Spaces(2),
+            (None, _) => RequestedLayout::Compact,
         }
     }
 

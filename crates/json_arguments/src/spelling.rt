@@ -1,7 +1,7 @@
 // What the value of an operand spells.
 ghost use Rattle.std.specs.Prelude.{◌≡◌, is_some, option_map, IfOk, IfErr};
 ghost use Rattle.json_arguments.specs.Operands.{path_formed, edits_formed};
-ghost use Rattle.json_arguments.specs.declared.problem.Refusal.TheVariants as Refusal;
+ghost use Rattle.json_arguments.specs.declared.problem.OperandError.TheVariants as OperandError;
 ghost use Rattle.json_number.specs.Numbers.{value_of};
 ghost use Rattle.json_patch.specs.Lookups.{pointer_tokens};
 ghost use Rattle.json_patch.specs.Pointer.{pointer_of};
@@ -10,10 +10,11 @@ ghost use Rattle.json_value.specs.EditTrees.{index_of, step_in};
 ghost use Rattle.json_value.specs.Seen.{seen};
 
 use crate::operand::OperandKind;
-use crate::problem::Refusal;
-use json_data::{from_value, is_refusal};
+use crate::problem::OperandError;
+use json_data::from_value;
 use json_number::{JsonNumberTrait, Number};
 use json_patch::{PatchCode, Pointer};
+use json_tokens::is_refusal;
 use json_value::{Edit, Path, Value, View};
 use std::alloc::Global;
 
@@ -42,45 +43,45 @@ pub(crate) fn is_step(view: View<'_>) -> bool
 
 /// Returns the pointer that a text is, or `None` if it is none.
 #[tactic(auto, using(crate::proofs::Spelled::no_pointer))]
-pub(crate) fn parse_pointer(alloc: Global, text: &str) -> Result<Option<Pointer>, Refusal>
+pub(crate) fn parse_pointer(alloc: Global, text: &str) -> Result<Option<Pointer>, OperandError>
     ensures ok { IfOk result (λ o. option_map pointer_tokens o ≡ pointer_of text.now) }
-    ensures only { IfErr result (λ r. r ≡ Refusal.OutOfMemory) }
+    ensures only { IfErr result (λ r. r ≡ OperandError.OutOfMemory) }
 {
     match Pointer::parse(alloc, text) {
         Ok(pointer) => Ok(Some(pointer)),
         Err(error) => match error.code {
-            PatchCode::NoMemory => Err(Refusal::OutOfMemory),
+            PatchCode::NoMemory => Err(OperandError::OutOfMemory),
             _ => Ok(None),
         },
     }
 }
 
 /// Whether a value is an array of steps.
-pub(crate) fn is_path(alloc: Global, value: &Value) -> Result<bool, Refusal>
+pub(crate) fn is_path(alloc: Global, value: &Value) -> Result<bool, OperandError>
     ensures ok { IfOk result (λ b. b ≡ path_formed (tree_of value.now)) }
-    ensures only { IfErr result (λ r. r ≡ Refusal.OutOfMemory) }
+    ensures only { IfErr result (λ r. r ≡ OperandError.OutOfMemory) }
 {
     match from_value::<Path>(alloc, value) {
         Ok(_) => Ok(true),
         Err(error) if is_refusal(error.code) => Ok(false),
-        Err(_) => Err(Refusal::OutOfMemory),
+        Err(_) => Err(OperandError::OutOfMemory),
     }
 }
 
 /// Whether a value is an array of edits.
-pub(crate) fn are_edits(alloc: Global, value: &Value) -> Result<bool, Refusal>
+pub(crate) fn are_edits(alloc: Global, value: &Value) -> Result<bool, OperandError>
     ensures ok { IfOk result (λ b. b ≡ edits_formed (tree_of value.now)) }
-    ensures only { IfErr result (λ r. r ≡ Refusal.OutOfMemory) }
+    ensures only { IfErr result (λ r. r ≡ OperandError.OutOfMemory) }
 {
     match from_value::<Vec<Edit>>(alloc, value) {
         Ok(_) => Ok(true),
         Err(error) if is_refusal(error.code) => Ok(false),
-        Err(_) => Err(Refusal::OutOfMemory),
+        Err(_) => Err(OperandError::OutOfMemory),
     }
 }
 
 // Whether an element is an edit. Where memory runs out it is none.
-fn is_edit(alloc: Global, view: View<'_>) -> bool {
+fn is_edit_value(alloc: Global, view: View<'_>) -> bool {
     match view.to_value(alloc) {
         Ok(value) => from_value::<Edit>(alloc, &value).is_ok(),
         Err(_) => false,
@@ -94,7 +95,7 @@ pub(crate) fn first_unspelled(alloc: Global, kind: OperandKind, value: &Value) -
     let mut number = 0usize;
     'elements: for element in array.iter() {
         let spelled = match kind {
-            OperandKind::Edits => is_edit(alloc, element),
+            OperandKind::Edits => is_edit_value(alloc, element),
             OperandKind::Path => is_step(element),
             _ => return None,
         };

@@ -39,7 +39,7 @@ pub enum Verb {
 }
 
 // The text after the first equals sign, if the text before it is the name and it is not empty.
-fn text_after<'a>(word: &'a str, name: &str) -> Option<&'a str>
+fn text_after_name<'a>(word: &'a str, name: &str) -> Option<&'a str>
     ensures { option_map (λ s. s.now) result ≡ file_in name.now word.entry.now }
 {
     let (before, after) = word.split_once('=')?;
@@ -107,9 +107,9 @@ impl Verb {
         ensures { option_map (λ s. s.now) result ≡ source_in self word.entry.now }
     {
         match self {
-            Verb::Edit => text_after(word, "--edits"),
-            Verb::Patch => text_after(word, "--patch"),
-            Verb::Merge => text_after(word, "--merge"),
+            Verb::Edit => text_after_name(word, "--edits"),
+            Verb::Patch => text_after_name(word, "--patch"),
+            Verb::Merge => text_after_name(word, "--merge"),
             _ => None,
         }
     }

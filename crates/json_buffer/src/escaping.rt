@@ -6,7 +6,7 @@ ghost use Rattle.json_model.specs.Print.{shown_byte, shown_bytes, unit_escape};
 ghost use Rattle.json_scan.specs.Runs.{IsPlain};
 
 use crate::placing::{place_byte, place_piece};
-use json_text::plain_run;
+use json_scan::plain_run;
 use std::simd::prelude::*;
 
 const BLOCK: usize = 16;

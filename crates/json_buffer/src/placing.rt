@@ -144,7 +144,7 @@ pub(crate) fn place_piece(buffer: &mut [u8], at: usize, piece: &[u8])
 
 // How many digits a number below 10,000 has.
 #[inline(always)]
-fn few_digits(number: u64) -> usize
+fn few_digit_count(number: u64) -> usize
     requires { number < 10000 }
     ensures { result ≡ length (decimal number) }
 {
@@ -171,7 +171,7 @@ fn digit_count(number: u64) -> usize
         left /= 10_000;
         count += 4;
     }
-    count + few_digits(left)
+    count + few_digit_count(left)
 }
 
 // Stores the digits of a number after the first `at` bytes, and returns the end of them.

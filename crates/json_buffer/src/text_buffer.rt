@@ -8,8 +8,8 @@ ghost use Rattle.json_io.specs.Outside.{Writes, Flushes};
 use crate::escaping::{ESCAPED, place_escaped};
 use crate::lead::Lead;
 use crate::placing::{ITEM, place_byte, place_digits, place_item, place_lead, place_piece};
+use json_io::{Sink, SinkError};
 use json_print::{CompactFormatter, Formatter};
-use json_text::{Sink, SinkError};
 use std::alloc::Global;
 
 // How many bytes are asked for at least.

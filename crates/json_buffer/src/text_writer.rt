@@ -13,8 +13,8 @@ use crate::lead::Lead;
 use crate::text_buffer::TextBuffer;
 use itoa::{Buffer, Integer};
 use json_grammar::Kind;
+use json_io::{Error, ErrorCode, Place, Result};
 use json_print::Events;
-use json_text::{Error, ErrorCode, Place, Result};
 use std::alloc::Global;
 
 /// Writes the tokens of a value to a compact text in memory. A key or a value is appended with the
@@ -51,7 +51,7 @@ fn opening(kind: Kind) -> &'static [u8]
 
 // The bracket that closes it.
 #[inline(always)]
-fn closing(kind: Kind) -> &'static [u8]
+fn closing_bracket(kind: Kind) -> &'static [u8]
     ensures { result.now ≡ closing kind ∷ [] }
 {
     match kind {
@@ -196,7 +196,7 @@ impl TextWriter {
     fn end(&mut self, kind: Kind) -> Result<()>
         ensures { texts.PutsText texts.given_put self.old self.new (given (end kind)) result }
     {
-        if self.failed || !self.buffer.put_piece(Lead::Nothing, closing(kind)) {
+        if self.failed || !self.buffer.put_piece(Lead::Nothing, closing_bracket(kind)) {
             return self.refuse();
         }
         let _ = self.opened.pop();
@@ -212,7 +212,7 @@ impl Events for TextWriter {
 
     ghost after = { texts.given_put };
 
-    ghost stand = { texts.text_expected };
+    ghost token_state = { texts.text_expected };
 
     ghost stopped = { texts.StopsAtMemory };
 

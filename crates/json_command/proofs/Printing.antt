@@ -13,7 +13,7 @@ use Rattle.json_io.proofs.Known.{known-append, known-nil}
 use Rattle.json_io.specs.Lending.{lent_as, ComesBack}
 use Rattle.json_io.specs.Outside.{SinkState, Rose}
 use Rattle.json_io.specs.Transfer.{AppendsFront, FlushesAll, WritingCause}
-use Rattle.json_layout.specs.Buffered.{held_behind}
+use Rattle.json_layout.specs.Buffered.{held_after}
 use Rattle.json_layout.specs.Pieces.{holds_any}
 use Rattle.json_layout.specs.TextWriting.{StopCause, WritesText}
 use Rattle.json_layout.specs.Shown.{shown_as}
@@ -54,7 +54,7 @@ pub flush_ran_out : (old new : SinkState) (size : ℕ) (r : Result (Unit {0}) Er
 flush_ran_out old new size r h e = inl (risen old.lacks new.lacks (subst (λ x. IfErr x (λ y. WritingCause old new y.code y.place)) e h.cause))
 
 -- the returned sink is the one that ran out of memory
-pub lent_ran_out : (old now sent lent : SinkState) (name : GName) (held : List ℕ) (size : ℕ) (r : Result (Unit {0}) Error) → sent ≡ held_behind lent held → ComesBack lent now name → (IsErrOf r no_memory → HasRunOut sent size) → RunsOutOnlyWith old now size r
+pub lent_ran_out : (old now sent lent : SinkState) (name : GName) (held : List ℕ) (size : ℕ) (r : Result (Unit {0}) Error) → sent ≡ held_after lent held → ComesBack lent now name → (IsErrOf r no_memory → HasRunOut sent size) → RunsOutOnlyWith old now size r
 lent_ran_out old now sent lent name held size r s back h e =
     let lacks : sent.lacks ≡ now.lacks = ap (λ (x : SinkState). x.lacks) s ∙ ap (λ (x : SinkState). x.lacks) back.as_lent in
     inr (subst (λ n. RunOut n size) lacks (h e))
@@ -68,19 +68,19 @@ stop_cause old mid new code place e h = absurd h
 
 pub text_flushed : (old mid new : SinkState) (text : List ℕ) (u : Unit {0}) (r : Result (Unit {0}) Error) → WritesText old mid text (Ok u) → FlushesAll mid new r → WritesFlushed old new text r
 text_flushed old mid new text u (Ok v) g h =
-    record { ok = h.keeps ∙ g.ok; flushed = h.ok; prefix = tt; cause = tt; told = λ l. h.told (omega (arith, g.calm, l)); same_loan = h.later.same_loan ∙ g.same_loan }
+    record { ok = h.keeps ∙ g.ok; flushed = h.ok; prefix = tt; cause = tt; reported = λ l. h.reported (omega (arith, g.calm, l)); same_loan = h.later.same_loan ∙ g.same_loan }
 text_flushed old mid new text u (Err e) g h =
     record {
       ok = tt;
       flushed = tt;
       prefix = record { back = []; whole = sym (known-nil new.gained ∙ h.keeps ∙ g.ok) };
       cause = stop_cause old mid new e.code e.place g.calm h.cause;
-      told = λ l. h.told (omega (arith, g.calm, l));
+      reported = λ l. h.reported (omega (arith, g.calm, l));
       same_loan = h.later.same_loan ∙ g.same_loan;
     }
 
 pub text_stopped : (old new : SinkState) (text : List ℕ) (e : Error) → WritesText old new text (Err e) → WritesFlushed old new text (Err e)
-text_stopped old new text e g = record { ok = tt; flushed = tt; prefix = g.prefix; cause = g.cause; told = g.told; same_loan = g.same_loan }
+text_stopped old new text e g = record { ok = tt; flushed = tt; prefix = g.prefix; cause = g.cause; reported = g.reported; same_loan = g.same_loan }
 
 -- ---- what the borrowed sink has gained
 
@@ -95,23 +95,23 @@ printing_fails old new text Io Writing c f = (c, f)
 printing_fails old new text code place c f = absurd c
 
 -- the loan ends with what the writer sent
-lent_back : (old new : SinkState) (name : GName) (held text : List ℕ) (r : Result (Unit {0}) Error) → Grows old.gained new.gained → WritesFlushed (lent_as old name old.gained) (held_behind (lent_as new name old.gained) held) text r → Prints old new text r
+lent_back : (old new : SinkState) (name : GName) (held text : List ℕ) (r : Result (Unit {0}) Error) → Grows old.gained new.gained → WritesFlushed (lent_as old name old.gained) (held_after (lent_as new name old.gained) held) text r → Prints old new text r
 lent_back old new name held text (Ok u) g h =
     let none = none_held held new.unflushed h.flushed in
-    record { ok = sym (known-nil new.gained) ∙ ap (append_known new.gained) (sym none.0) ∙ h.ok; flushed = none.1; err = tt; told = h.told }
+    record { ok = sym (known-nil new.gained) ∙ ap (append_known new.gained) (sym none.0) ∙ h.ok; flushed = none.1; err = tt; reported = h.reported }
 lent_back old new name held text (Err e) g h =
     let all = h.prefix.whole ∙ known-append new.gained held h.prefix.back in
-    record { ok = tt; flushed = tt; err = printing_fails old new text e.code e.place h.cause (front_gained old.gained new.gained text _ all g); told = h.told }
+    record { ok = tt; flushed = tt; err = printing_fails old new text e.code e.place h.cause (front_gained old.gained new.gained text _ all g); reported = h.reported }
 
-loan_sent : (lent sent began : SinkState) (held text : List ℕ) (r : Result (Unit {0}) Error) → WritesFlushed began sent text r → sent ≡ held_behind lent held → lent.loan ≡ began.loan
+loan_sent : (lent sent began : SinkState) (held text : List ℕ) (r : Result (Unit {0}) Error) → WritesFlushed began sent text r → sent ≡ held_after lent held → lent.loan ≡ began.loan
 loan_sent lent sent began held text r h s = ap (λ (x : SinkState). x.loan) (sym s) ∙ h.same_loan
 
-pub same_sink : (old now sent lent began : SinkState) (name name' : GName) (held text : List ℕ) (r : Result (Unit {0}) Error) → began ≡ lent_as old name old.gained → WritesFlushed began sent text r → sent ≡ held_behind lent held → ComesBack lent now name' → name' ≡ name
+pub same_sink : (old now sent lent began : SinkState) (name name' : GName) (held text : List ℕ) (r : Result (Unit {0}) Error) → began ≡ lent_as old name old.gained → WritesFlushed began sent text r → sent ≡ held_after lent held → ComesBack lent now name' → name' ≡ name
 same_sink old now sent lent began name name' held text r b h s back = same_name old now lent began name name' b (loan_sent lent sent began held text r h s) back
 
-pub printed_through : (old now sent lent began : SinkState) (name name' : GName) (held text : List ℕ) (r : Result (Unit {0}) Error) → began ≡ lent_as old name old.gained → WritesFlushed began sent text r → sent ≡ held_behind lent held → ComesBack lent now name' → Prints old now text r
+pub printed_through : (old now sent lent began : SinkState) (name name' : GName) (held text : List ℕ) (r : Result (Unit {0}) Error) → began ≡ lent_as old name old.gained → WritesFlushed began sent text r → sent ≡ held_after lent held → ComesBack lent now name' → Prints old now text r
 printed_through old now sent lent began name name' held text r b h s back =
     let loan = loan_sent lent sent began held text r h s in
-    let is : sent ≡ held_behind (lent_as now name old.gained) held = s ∙ ap (λ x. held_behind x held) (sent_back old now lent began name name' b loan back) in
+    let is : sent ≡ held_after (lent_as now name old.gained) held = s ∙ ap (λ x. held_after x held) (sent_back old now lent began name name' b loan back) in
     lent_back old now name held text r (grown old now lent began name name' b loan back)
     (subst (λ (x : SinkState). WritesFlushed (lent_as old name old.gained) x text r) is (subst (λ (x : SinkState). WritesFlushed x sent text r) b h))

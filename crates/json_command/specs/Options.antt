@@ -9,12 +9,12 @@ up_to max (pos n) = cond (nat_le n max) (Some n) None
 up_to max (negsuc n) = None
 
 -- `0`, or what begins with a digit from 1 to 9
-abbrev pub is_plain : List ℕ → Bool
-is_plain d = bytes_eq d (codes "0") || (nat_le 49 (slice_index d 0) && nat_le (slice_index d 0) 57)
+abbrev pub has_no_leading_zero : List ℕ → Bool
+has_no_leading_zero d = bytes_eq d (codes "0") || (nat_le 49 (slice_index d 0) && nat_le (slice_index d 0) 57)
 
 -- the number that decimal digits without a leading zero are, from 0 to the greatest
 abbrev pub number_up_to : ℕ → List ℕ → Option ℕ
-number_up_to max d = cond (is_plain d) (option_and_then (up_to max) (integer_in d)) None
+number_up_to max d = cond (has_no_leading_zero d) (option_and_then (up_to max) (integer_in d)) None
 
 -- the number after a name and the first equals sign, from 0 to the greatest
 abbrev pub number_after : List ℕ → ℕ → List ℕ → Option ℕ

@@ -17,7 +17,7 @@ pub record WritesFlushed (old new : SinkState) (text : List ℕ) (result : Resul
   pub flushed : OnOk result (new.unflushed ≡ false)
   pub prefix : OnErr result (Begins new.gained (append_known old.gained text))
   pub cause : IfErr result (λ e. StopCause old.faults new.faults e.code e.place)
-  pub told : old.faults < new.faults → IsErrOf result writing_failed
+  pub reported : old.faults < new.faults → IsErrOf result writing_failed
   pub same_loan : new.loan ≡ old.loan
 
 -- why the text was not written, and what that left in the sink
@@ -31,7 +31,7 @@ pub record Prints (old new : SinkState) (text : List ℕ) (result : Result (Unit
   pub ok : OnOk result (Appends old.gained new.gained text)
   pub flushed : OnOk result (new.unflushed ≡ false)
   pub err : IfErr result (λ e. PrintingFails old new text e.code e.place)
-  pub told : old.faults < new.faults → IsErrOf result writing_failed
+  pub reported : old.faults < new.faults → IsErrOf result writing_failed
 
 -- a write or a flush that failed is returned as that error
 abbrev pub ReturnsWriteError : {A : Type 0} → SinkState → SinkState → Result A Error → Type 0

@@ -6,7 +6,7 @@ use Rattle.json_io.specs.declared.error.Place.{Place}
 use Rattle.json_io.specs.declared.error.Place.TheVariants.{Writing}
 use Rattle.json_command.specs.declared.status.Status.{Status}
 use Rattle.json_command.specs.declared.status.Status.TheVariants.{Success, InvalidInput, InvalidArguments, EditFailed, ReadFailed, WriteFailed, OutOfMemory, TooMuchInput, NoArguments}
-use Rattle.json_model.specs.Edit.{Refusal, not_found, type_unmatched}
+use Rattle.json_model.specs.Edit.{EditRefusal, not_found, type_unmatched}
 use Rattle.json_io.specs.Outside.{SourceState, SinkState, Rose}
 
 -- its number
@@ -36,7 +36,7 @@ abbrev pub status_of : ErrorCode → Place → ℕ
 status_of code place = status_number (error_status code place)
 
 -- the code of a refusal of an edit
-abbrev pub code_of_refusal : Refusal → ErrorCode
+abbrev pub code_of_refusal : EditRefusal → ErrorCode
 code_of_refusal not_found = NotFound
 code_of_refusal type_unmatched = TypeUnmatched
 

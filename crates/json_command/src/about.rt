@@ -6,7 +6,7 @@ ghost use Rattle.json_command.specs.Reporting.{Reports};
 use crate::output::write_text;
 use crate::reporting::report_text;
 use crate::status::Status;
-use json_text::{Sink, Words};
+use json_io::{Sink, Words};
 
 // Whether an argument asks for the help.
 fn asks_for_help(argument: &str) -> bool

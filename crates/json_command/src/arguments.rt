@@ -12,7 +12,8 @@ use crate::reporting::report_text;
 use crate::status::Status;
 use crate::streams::{ErrorStream, Note, NotedStream, reason_of};
 use json_doc::{Doc, read_document_with};
-use json_text::{Error, ErrorCode, Place, Rules, StdSink, StdSource, Words};
+use json_io::{Error, ErrorCode, Place, StdSink, StdSource, Words};
+use json_text::Rules;
 use std::alloc::Global;
 use std::cell::Cell;
 use std::rc::Rc;
@@ -51,7 +52,7 @@ pub fn arguments_error(code: ErrorCode) -> Error
 /// assert!(rt; View::packed(doc.view()).as_array().is_some());
 /// assert_eq!(rt; read_argument(alloc, "[").err(), Some(BAD_WORDS));
 /// ```
-pub fn read_argument(alloc: Global, argument: &str) -> json_text::Result<Rc<Doc>>
+pub fn read_argument(alloc: Global, argument: &str) -> json_io::Result<Rc<Doc>>
     ensures ok { IfOk result (λ d. IsInput usual_rules argument.now
         (doc_tree d.value (doc_root d.value))) }
     ensures err { IfErr result (λ e. (e ≡ no_memory)

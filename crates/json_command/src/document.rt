@@ -7,7 +7,8 @@ ghost use Rattle.json_command.specs.Input.{max_bytes};
 ghost use Rattle.json_command.specs.Reading.{ReadsInput, InputFails, ReturnsReadError};
 
 use json_doc::{Doc, read_document_with};
-use json_text::{Result, Rules, Source, check_utf8, read_all};
+use json_io::{Result, Source, check_utf8, read_all};
+use json_text::Rules;
 use std::alloc::Global;
 use std::rc::Rc;
 
@@ -24,7 +25,7 @@ pub fn read_document_from<S: Source>(alloc: Global, source: &mut S, rules: Rules
     ensures failed { IfErr result (λ e. InputFails (rules_of rules)
         (S.state source.old) (S.state source.new) e.code e.place) }
     ensures taken { TakesOneBeyond max_bytes (S.state source.old) (S.state source.new) }
-    ensures told { ReturnsReadError (S.state source.old) (S.state source.new) result }
+    ensures read_error { ReturnsReadError (S.state source.old) (S.state source.new) result }
 {
     let bytes = read_all(alloc, source, MAX_BYTES)?;
     let text = check_utf8(&bytes)?;

@@ -1,10 +1,10 @@
 // The number that an option asks for.
 ghost use Rattle.std.specs.Prelude.{◌≡◌, ◌≤◌, IfSome};
-ghost use Rattle.json_command.specs.Options.{is_plain, number_up_to, number_after};
+ghost use Rattle.json_command.specs.Options.{has_no_leading_zero, number_up_to, number_after};
 
 // Whether it is `0`, or begins with a digit from 1 to 9.
 fn is_plain_number(digits: &str) -> bool
-    ensures { result ≡ is_plain digits.now }
+    ensures { result ≡ has_no_leading_zero digits.now }
 {
     let bytes = digits.as_bytes();
     digits == "0" || !bytes.is_empty() && bytes[0] >= b'1' && bytes[0] <= b'9'

@@ -8,13 +8,13 @@ ghost use Rattle.json_io.specs.Outside.{SinkState, Rose};
 ghost use Rattle.json_value.specs.Denotes.{tree_of};
 ghost use Rattle.json_command.specs.Printing.{HasRunOut, Prints, RunsOutOnlyWith, WritesFlushed};
 
-use json_print::{Buffer, BufferedWriter, Layout, ManyLines, OneLine, Style};
-use json_text::{LentSink, Result, Sink, flush_all, put_all};
+use json_io::{LentSink, Result, Sink, flush_all, put_all};
+use json_layout::{BufferedWriter, Layout, ManyLines, OneLine, Style, WriteBuffer};
 use json_value::Value;
 use std::alloc::Global;
 
 // The text in a layout, sorted or not.
-fn laid_out<W: Sink, L: Layout>(
+fn print_laid_out<W: Sink, L: Layout>(
     alloc: Global,
     value: &Value,
     sorts: bool,
@@ -52,8 +52,8 @@ fn styled<W: Sink>(
 {
     let sorts = style.sorted();
     match style.indent() {
-        None => laid_out(alloc, value, sorts, OneLine, out),
-        Some(indent) => laid_out(alloc, value, sorts, ManyLines::new(indent.as_bytes()), out),
+        None => print_laid_out(alloc, value, sorts, OneLine, out),
+        Some(indent) => print_laid_out(alloc, value, sorts, ManyLines::new(indent.as_bytes()), out),
     }
 }
 
@@ -108,7 +108,7 @@ pub fn print_value<K: Sink>(
     ensures ran_out { is_sorted style.entry ≡ false → RunsOutOnlyWith (K.state sink.old)
         (K.state sink.new) (length (printed style.entry (tree_of value.now))) result }
 {
-    let buffer = Buffer::new(alloc)?;
+    let buffer = WriteBuffer::new(alloc)?;
     let writer = BufferedWriter::with_buffer(buffer, LentSink::new(sink));
     let (writer, outcome) = sent(alloc, value, style, writer);
     let _sink = writer.into_inner().into_inner();

@@ -2,7 +2,7 @@
 ghost use Rattle.json_io.specs.FaultText.{text_of};
 ghost use Rattle.json_command.specs.Reporting.{Reports};
 
-use json_text::{Error, Sink, fault_text, put_all};
+use json_io::{Error, Sink, fault_text, put_all};
 
 /// Writes a text to a sink for errors. Where a write fails or finds no memory, the sink gains a
 /// prefix of the text.

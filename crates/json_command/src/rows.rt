@@ -20,7 +20,7 @@ ghost use Rattle.std.specs.Prelude.{◌≡◌, ◌≤◌};
 ghost use Rattle.json_io.specs.Errors.{OnlyNoMemory};
 
 use crate::status::Status;
-use json_text::{FakeSource, Result, VecSink, Words};
+use json_io::{FakeSource, Result, VecSink, Words};
 use percent_encoding::percent_decode;
 use std::alloc::Global;
 
@@ -35,7 +35,7 @@ struct Row {
 }
 
 // The field with each `«N PIECE»` as N times the piece.
-fn repeated(alloc: Global, field: &str) -> Result<String>
+fn repeat_field(alloc: Global, field: &str) -> Result<String>
     ensures { OnlyNoMemory result }
 {
     let mut text = String::new(alloc);
@@ -54,7 +54,7 @@ fn decoded(alloc: Global, field: &str) -> Result<Vec<u8>>
     ensures { OnlyNoMemory result }
 {
     let mut bytes = Vec::new(alloc);
-    let text = repeated(alloc, field)?;
+    let text = repeat_field(alloc, field)?;
     percent_decode(text.as_bytes()).append_to(&mut bytes)?;
     Ok(bytes)
 }
@@ -90,7 +90,7 @@ fn read_row(alloc: Global, line: &str) -> Result<Option<Row>>
     let errors = decoded_lines(alloc, errors)?;
     let mut arguments = Words::new(alloc);
     'arguments: for argument in fields {
-        let argument = repeated(alloc, argument)?;
+        let argument = repeat_field(alloc, argument)?;
         arguments.push(argument.as_str())?;
     }
     Ok(Some(Row {

@@ -2,7 +2,7 @@
 ghost use Rattle.std.specs.Prelude.{◌≡◌};
 ghost use Rattle.json_command.specs.Statuses.{status_number, error_status};
 
-use json_text::{Error, ErrorCode, Place};
+use json_io::{Error, ErrorCode, Place};
 
 /// The status that a program of this repository ends with.
 ///

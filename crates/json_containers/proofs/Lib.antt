@@ -4,7 +4,7 @@ pub mod Entries
 pub mod Keys
 pub mod Put
 pub mod Ranges
-pub mod FoundBehind
+pub mod FoundAfter
 pub mod Turns
 pub mod Kept
 pub mod Found

@@ -3,7 +3,7 @@ use Rattle.std.proofs.Common.{◌≡◌, map, Vec, Global, inl, inr, refl, ap, �
 use Rattle.json_value.proofs.HasLists.{by_list}
 use Rattle.json_value.specs.Denotes.{tree_of, pair_of, list_in, pairs_in}
 use Rattle.json_value.specs.Rows.{owned, OwnsList}
-use Rattle.json_value.specs.Spots.{IsPlace}
+use Rattle.json_value.specs.Positions.{IsPlace}
 use Rattle.json_value.specs.Written.{FirstElements, FirstMembers}
 use Rattle.json_value.specs.declared.container.Container.{Container}
 use Rattle.json_value.specs.declared.pair.Keyed.{Keyed}

@@ -3,7 +3,7 @@ use Rattle.std.proofs.Common.{◌≡◌, suc, ◌+◌, List, [], ◌∷◌, ◌+
 use mathlib.Core.List.{append-nil}
 use Rattle.json_value.specs.declared.value.Value.{Value}
 use Rattle.json_containers.specs.IntoIter.{values_left, TakesFirst, TakesLast}
-use Rattle.json_containers.specs.Laws.{EachIsGivenOnce, NothingIsGivenAfterAll, Turn, at_front, at_back, Gave, from_front, from_back}
+use Rattle.json_containers.specs.Laws.{EachIsGivenOnce, NothingIsGivenAfterAll, IteratorCall, at_front, at_back, CallsLead, from_front, from_back}
 use Rattle.json_containers.specs.declared.into_iter.IntoIter.{IntoIter}
 
 pub each_is_given_once : EachIsGivenOnce
@@ -17,7 +17,7 @@ each_is_given_once s t (at_back (Some x) ∷ turns) g =
     let back = from_back turns in
     g.1.0 ∙ ap (λ (xs : List Value). xs ++ x ∷ []) (each_is_given_once g.0 t turns g.2) ∙ append_assoc front (values_left t ++ back) (x ∷ []) ∙ ap (λ (xs : List Value). front ++ xs) (append_assoc (values_left t) back (x ∷ []))
 
-all_given : (s t : IntoIter) (turns : List Turn) → Gave s turns t → length (from_front turns) + length (from_back turns) ≡ length (values_left s) → length (values_left t) ≡ 0
+all_given : (s t : IntoIter) (turns : List IteratorCall) → CallsLead s turns t → length (from_front turns) + length (from_back turns) ≡ length (values_left s) → length (values_left t) ≡ 0
 all_given s t turns g all =
     let whole : length (values_left s) ≡ length (from_front turns) + length (values_left t ++ from_back turns) = ap length (each_is_given_once s t turns g) ∙ length-append (from_front turns) (values_left t ++ from_back turns) in
     let rest : length (values_left t ++ from_back turns) ≡ length (values_left t) + length (from_back turns) = length-append (values_left t) (from_back turns) in

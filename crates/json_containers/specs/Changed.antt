@@ -6,7 +6,7 @@ use Rattle.json_value.specs.Denotes.{tree_of, pair_of, list_in, pairs_in}
 use Rattle.json_value.specs.Places.{value_origin}
 use Rattle.json_value.specs.Room.{spare_in}
 use Rattle.json_value.specs.Rows.{owned, owned_items_of}
-use Rattle.json_value.specs.Spots.{IsPlace}
+use Rattle.json_value.specs.Positions.{IsPlace}
 use Rattle.json_value.specs.Written.{FirstElements, FirstMembers}
 use Rattle.json_value.specs.declared.container.Container.{Container}
 use Rattle.json_value.specs.declared.pair.Keyed.{Keyed}

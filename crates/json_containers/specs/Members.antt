@@ -55,8 +55,8 @@ abbrev pub object_more : (o : Container (Keyed Value)) → 0 < spare_in o → Ke
 object_more o room m = with_list o (λ v is. one_more v (room_in_list o v is room) m)
 
 -- the value of the first member of the key
-abbrev pub found : {X : Type 0} → List ℕ → List (List ℕ × X) → Option X
-found k ps = option_map (λ p. p.1) (first_of k ps)
+abbrev pub first_member_value : {X : Type 0} → List ℕ → List (List ℕ × X) → Option X
+first_member_value k ps = option_map (λ p. p.1) (first_of k ps)
 
 -- a call of f at the key and at the value of m may give r, and leave f' and m'
 pub record CalledAtMember {F : Type 0} (g : Mut F (Bor (List ℕ) × (MutBor Value × Unit {0})) (Bool × (MutBor Value × Unit {0}))) (f : F) (m : Keyed Value) (r : Bool) (f' : F) (m' : Keyed Value) : Type 0 where

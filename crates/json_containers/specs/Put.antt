@@ -2,13 +2,13 @@
 use Rattle.std.specs.Prelude.{◌≡◌, ℕ, List, ◌⊎◌, Option, None, map}
 use Rattle.json_value.specs.Denotes.{text_bytes}
 use Rattle.json_value.specs.Places.{Origin, value_origin}
-use Rattle.json_value.specs.Spots.{CellRef}
+use Rattle.json_value.specs.Positions.{CellRef}
 use Rattle.json_value.specs.Touched.{Appended, OfValue}
-use Rattle.json_value.specs.Written.{value_in, key_spot}
+use Rattle.json_value.specs.Written.{value_in, pair_key_position}
 use Rattle.json_value.specs.declared.pair.Keyed.{Keyed}
 use Rattle.json_value.specs.declared.value.Value.{Value}
 use Rattle.json_value.specs.Touched.{AtMember, unkeyed}
-use Rattle.json_containers.specs.Members.{found}
+use Rattle.json_containers.specs.Members.{first_member_value}
 
 -- a member, as its key and its value
 abbrev pub named_value : Keyed Value → List ℕ × Value
@@ -16,7 +16,7 @@ named_value m = (text_bytes m.key, value_in m)
 
 -- the first value of the key, itself
 abbrev pub value_under : List ℕ → List (Keyed Value) → Option Value
-value_under k items = found k (map named_value items)
+value_under k items = first_member_value k (map named_value items)
 
 -- w was put in the first member of the key, in the place of the value o, or added with a member of
 -- its own after the others
@@ -30,7 +30,7 @@ TakesOut k o items now = (o ≡ value_under k items) × (now ≡ unkeyed k items
 
 -- the positions of a member's key, and of its value with its parts
 abbrev pub stood_member : Keyed Value → Option CellRef × Origin
-stood_member m = (key_spot m, value_origin (value_in m))
+stood_member m = (pair_key_position m, value_origin (value_in m))
 
 -- so of a copy of the member, whose key is no place
 abbrev pub copied_member : Keyed Value → Option CellRef × Origin

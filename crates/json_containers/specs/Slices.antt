@@ -5,7 +5,7 @@ use Rattle.std.specs.declared.alloc.Global.{Global}
 use Rattle.json_io.specs.Errors.{no_memory}
 use Rattle.json_io.specs.declared.error.Error.{Error}
 use Rattle.json_value.specs.Denotes.{tree_of, list_in}
-use Rattle.json_value.specs.Spots.{IsPlace}
+use Rattle.json_value.specs.Positions.{IsPlace}
 use Rattle.json_value.specs.Written.{FirstElements}
 use Rattle.json_value.specs.declared.container.Container.{Container}
 use Rattle.json_value.specs.declared.value.Value.{Value}

@@ -12,7 +12,7 @@ ghost use Rattle.json_io.specs.Errors.{OnlyNoMemory};
 ghost use Rattle.json_value.specs.Denotes.{tree_of, list_in};
 ghost use Rattle.json_value.specs.Places.{value_origin};
 ghost use Rattle.json_value.specs.Room.{spare_in};
-ghost use Rattle.json_value.specs.Spots.{IsPlace};
+ghost use Rattle.json_value.specs.Positions.{IsPlace};
 ghost use Rattle.json_value.specs.Written.{FirstElements};
 ghost use Rattle.json_value.specs.declared.container.Container.{Container};
 ghost use Rattle.json_value.specs.declared.value.Value.{Value};
@@ -24,14 +24,14 @@ ghost use Rattle.json_containers.specs.Slices.{written_over};
 
 use crate::into_iter::IntoIter;
 use crate::slices::{elements_of, slice_of};
-use json_text::Result;
+use json_io::Result;
 use json_value::{Array, Value};
 use std::alloc::Global;
 
 // Copies of these.
 fn copy_all(alloc: Global, items: &[Value]) -> Result<Vec<Value>>
     ensures list { IfOk result (λ v. map tree_of v.items ≡ map tree_of items.now) }
-    ensures stands { IfOk result (λ v. map value_origin v.items ≡ map value_origin items.now) }
+    ensures origins { IfOk result (λ v. map value_origin v.items ≡ map value_origin items.now) }
     ensures only { OnlyNoMemory result }
 {
     let mut copies = Vec::with_capacity(alloc, items.len())?;
@@ -44,7 +44,7 @@ fn copy_all(alloc: Global, items: &[Value]) -> Result<Vec<Value>>
 // Returns `count` copies of the value.
 fn copies_of(alloc: Global, value: &Value, count: usize) -> Result<Vec<Value>>
     ensures list { IfOk result (λ v. map tree_of v.items ≡ replicate count (tree_of value.now)) }
-    ensures stands { IfOk result (λ v. map value_origin v.items
+    ensures origins { IfOk result (λ v. map value_origin v.items
         ≡ replicate count (value_origin value.now)) }
     ensures only { OnlyNoMemory result }
 {

@@ -74,7 +74,7 @@ pub struct VacantEntry<'a> {
 }
 
 // The value of the member at the index.
-fn value_at(object: &mut Object, at: usize) -> &mut Value
+fn value_mut_at(object: &mut Object, at: usize) -> &mut Value
     requires { at < length (own_members object.old) }
     ensures* writes_back { sem 𝓛 (Lends object_row value_row object.entry result
         (object_with object.old at)) }
@@ -85,7 +85,7 @@ fn value_at(object: &mut Object, at: usize) -> &mut Value
 }
 
 // Appends the member, for which there is room.
-pub(crate) fn add(pairs: &mut Vec<Pair>, pair: Pair)
+pub(crate) fn add_member(pairs: &mut Vec<Pair>, pair: Pair)
     requires { vec_len pairs.old < vec_capacity pairs.old }
     ensures items { pairs.new.items ≡ pairs.old.items ++ pair ∷ [] }
     ensures len { vec_len pairs.new ≡ vec_len pairs.old + 1 }
@@ -123,7 +123,7 @@ impl<'a> OccupiedEntry<'a> {
         ensures value { entry_value (Occupied self.entry) ≡ Some result.now }
     {
         let object = self.object;
-        value_at(object, self.at)
+        value_mut_at(object, self.at)
     }
 
     /// Returns the value, to be changed, for as long as the entry is borrowed.
@@ -134,7 +134,7 @@ impl<'a> OccupiedEntry<'a> {
             (Occupied (with_entry_value self.old w)) }
     {
         let at = self.at;
-        value_at(self.object, at)
+        value_mut_at(self.object, at)
     }
 
     /// Sets the value, and returns the old one.
@@ -200,7 +200,7 @@ impl<'a> VacantEntry<'a> {
         let VacantEntry { object, key } = self;
         let pairs = object.owned_mut();
         let at = pairs.len();
-        add(pairs, Pair::new(key, val));
+        add_member(pairs, Pair::new(key, val));
         pairs[at].value_mut()
     }
 }

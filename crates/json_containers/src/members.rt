@@ -12,13 +12,13 @@ ghost use Rattle.json_value.specs.declared.value.Value.{Value};
 ghost use Rattle.json_containers.specs.Members.{CalledAtMember, RetainsTo};
 ghost use Rattle.json_containers.specs.Put.{copied_member, stood_member};
 
-use crate::entry::add;
-use json_text::Result;
+use crate::entry::add_member;
+use json_io::Result;
 use json_value::{Pair, Text, Value, find_key};
 use std::alloc::Global;
 
 // Copies of these.
-pub(crate) fn copy_pairs(alloc: Global, pairs: &[Pair]) -> Result<Vec<Pair>>
+pub(crate) fn copy_pair_slice(alloc: Global, pairs: &[Pair]) -> Result<Vec<Pair>>
     ensures pairs { IfOk result (λ v. map pair_of v.items ≡ map pair_of pairs.now) }
     ensures copies { IfOk result (λ v. map stood_member v.items ≡ map copied_member pairs.now) }
     ensures only { OnlyNoMemory result }
@@ -34,7 +34,7 @@ pub(crate) fn copy_pairs(alloc: Global, pairs: &[Pair]) -> Result<Vec<Pair>>
 
 // Puts the member's value at the first member of its key, or the member after the others, for
 // which there is room.
-pub(crate) fn put_pair(pairs: &mut Vec<Pair>, mut pair: Pair)
+pub(crate) fn put_member(pairs: &mut Vec<Pair>, mut pair: Pair)
     requires { vec_len pairs.old < vec_capacity pairs.old }
     ensures pairs { list_pairs (map pair_of pairs.new.items)
         ≡ inserted (pair_of pair).0 (pair_of pair).1 (list_pairs (map pair_of pairs.old.items)) }
@@ -44,7 +44,7 @@ pub(crate) fn put_pair(pairs: &mut Vec<Pair>, mut pair: Pair)
 {
     match find_key(pairs.as_slice(), pair.key()) {
         Some(at) => *pairs[at].value_mut() = pair.value_mut().take(),
-        None => add(pairs, pair),
+        None => add_member(pairs, pair),
     }
 }
 
@@ -56,7 +56,7 @@ pub(crate) fn put_pairs(pairs: &mut Vec<Pair>, more: Vec<Pair>)
     ensures members { pairs.new.items ≡ with_members more.items pairs.old.items }
 {
     for pair in more {
-        put_pair(pairs, pair);
+        put_member(pairs, pair);
     }
 }
 

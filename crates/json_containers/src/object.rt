@@ -10,15 +10,15 @@ ghost use Rattle.json_model.specs.Merged.{inserted_all};
 ghost use Rattle.json_io.specs.Errors.{OnlyNoMemory};
 ghost use Rattle.json_value.specs.Denotes.{tree_of, pair_of, pairs_in};
 ghost use Rattle.json_value.specs.FirstMember.{IsFirstOf};
-ghost use Rattle.json_value.specs.Left.{members_left, members_sights_left};
+ghost use Rattle.json_value.specs.Left.{members_left, members_targets_left};
 ghost use Rattle.json_value.specs.Lending.{missing_as_none, LendsPart};
 ghost use Rattle.json_value.specs.Merged.{with_members};
 ghost use Rattle.json_value.specs.Rows.{pair_row, object_row, value_row, OwnsList};
 ghost use Rattle.json_value.specs.Room.{spare_in};
 ghost use Rattle.json_value.specs.Seen.{seen, first_of};
-ghost use Rattle.json_value.specs.SightParts.{member_sight, object_sights};
-ghost use Rattle.json_value.specs.Sights.{sight_of};
-ghost use Rattle.json_value.specs.Spots.{IsPlace};
+ghost use Rattle.json_value.specs.TargetParts.{member_target, object_targets};
+ghost use Rattle.json_value.specs.ViewTargets.{view_target};
+ghost use Rattle.json_value.specs.Positions.{IsPlace};
 ghost use Rattle.json_value.specs.Written.{FirstMembers};
 ghost use Rattle.json_value.specs.declared.container.Container.{Container};
 ghost use Rattle.json_value.specs.declared.pair.Keyed.{Keyed};
@@ -29,12 +29,12 @@ ghost use Rattle.json_containers.specs.Entry.{entry_ref, entry_object, entry_key
 ghost use Rattle.json_containers.specs.Entry.{entry_value, entry_with};
 ghost use Rattle.json_containers.specs.Found.{Finds};
 ghost use Rattle.json_value.specs.Touched.{AtMember};
-ghost use Rattle.json_containers.specs.Members.{own_members, found, CalledAtMember};
+ghost use Rattle.json_containers.specs.Members.{own_members, first_member_value, CalledAtMember};
 ghost use Rattle.json_containers.specs.Put.{PutsValue, TakesOut, AreCopies};
 
 use crate::entry::{Entry, OccupiedEntry, VacantEntry, take_all};
-use crate::members::{copy_pairs, keep_members, put_pairs};
-use json_text::{Error, ErrorCode, Place, Result};
+use crate::members::{copy_pair_slice, keep_members, put_pairs};
+use json_io::{Error, ErrorCode, Place, Result};
 use json_value::{Iter, Object, Pair, Text, Value, View, find_key};
 use std::alloc::Global;
 use std::mem::replace;
@@ -71,12 +71,12 @@ fn make_room(object: &mut Object) -> Result<()>
 }
 
 // The value of the first member of the key.
-fn value_of<'o>(object: &'o mut Object, alloc: Global, key: &str) -> Result<&'o mut Value>
+fn added_value<'o>(object: &'o mut Object, alloc: Global, key: &str) -> Result<&'o mut Value>
     ensures* writes_back { sem 𝓛 (LendsSoOk object_row value_row object.entry result
         (λ n w. ObjectChanged (AtMember key.now (λ before after. after ≡ w)) object.old n)
         (λ n. ObjectStays object.old n)) }
-    ensures stands { Finds ((IsPlace object.old → ⊥) → ⊥)
-        (found key.now (pairs_in object.old)) result }
+    ensures leads { Finds ((IsPlace object.old → ⊥) → ⊥)
+        (first_member_value key.now (pairs_in object.old)) result }
 {
     let pairs = match object.pairs_mut(alloc) {
         Ok(pairs) => pairs,
@@ -137,9 +137,9 @@ pub trait ObjectCalls {
 
     /// The value of the first member of the key; none where there is none.
     fn get(&self, key: &str) -> Option<View<'_>>
-        ensures tree { option_map seen result ≡ found key.now (pairs_in (held self.now)) }
-        ensures sight { option_map sight_of result
-            ≡ option_map (λ p. p.1) (first_of key.now (object_sights (held self.now))) };
+        ensures tree { option_map seen result ≡ first_member_value key.now (pairs_in (held self.now)) }
+        ensures target { option_map view_target result
+            ≡ option_map (λ p. p.1) (first_of key.now (object_targets (held self.now))) };
 
     /// Whether there is a member of the key.
     fn contains_key(&self, key: &str) -> bool
@@ -149,13 +149,13 @@ pub trait ObjectCalls {
     fn get_key_value(&self, key: &str) -> Option<(&str, View<'_>)>
         ensures tree { option_map (λ p. (p.0.now, seen p.1)) result
             ≡ first_of key.now (pairs_in (held self.now)) }
-        ensures sight { option_map member_sight result
-            ≡ first_of key.now (object_sights (held self.now)) };
+        ensures target { option_map member_target result
+            ≡ first_of key.now (object_targets (held self.now)) };
 
     /// The members, each its key and its value, in order.
     fn iter(&self) -> Iter<'_>
         ensures trees { members_left result ≡ pairs_in (held self.now) }
-        ensures sights { members_sights_left result ≡ object_sights (held self.now) };
+        ensures sights { members_targets_left result ≡ object_targets (held self.now) };
 
     /// The value of the first member of the key, to be changed; none exactly where the key is
     /// missing. Fails with `NoMemory`, and changes nothing, if memory runs out.
@@ -164,8 +164,8 @@ pub trait ObjectCalls {
             (λ n w. ObjectChanged (AtMember key.now (λ before after. after ≡ w))
             (held self.old) (held n))
             (λ n. ObjectStays (held self.old) (held n))) }
-        ensures found { IfOk result (λ o. option_map (λ x. tree_of x.now) o
-            ≡ found key.now (pairs_in (held self.old))) }
+        ensures first_member_value { IfOk result (λ o. option_map (λ x. tree_of x.now) o
+            ≡ first_member_value key.now (pairs_in (held self.old))) }
         ensures free { (IsPlace (held self.old) → ⊥) → IsOk result }
         ensures only { OnlyNoMemory result };
 
@@ -187,7 +187,7 @@ pub trait ObjectCalls {
         ensures ok { OnOk result (list_pairs (pairs_in (held self.new))
             ≡ inserted key.now (tree_of value) (list_pairs (pairs_in (held self.old)))) }
         ensures before { IfOk result (λ o. option_map tree_of o
-            ≡ found key.now (pairs_in (held self.old))) }
+            ≡ first_member_value key.now (pairs_in (held self.old))) }
         ensures children { IfOk result (λ o. ObjectChanged (PutsValue key.now value o)
             (held self.old) (held self.new)) }
         ensures kept { ObjectStaysOnErr (held self.old) (held self.new) result }
@@ -233,7 +233,7 @@ pub trait ObjectCalls {
         ensures ok { OnOk result (list_pairs (pairs_in (held self.new))
             ≡ without_key key.now (list_pairs (pairs_in (held self.old)))) }
         ensures value { IfOk result (λ o. option_map (λ p. tree_of p.1) o
-            ≡ found key.now (pairs_in (held self.old))) }
+            ≡ first_member_value key.now (pairs_in (held self.old))) }
         ensures children { IfOk result (λ o. ObjectChanged
             (TakesOut key.now (option_map (λ p. p.1) o)) (held self.old) (held self.new)) }
         ensures key { IfOk result (λ o. IfSome o (λ p. p.0.now ≡ key.now)) }
@@ -272,7 +272,7 @@ pub trait ObjectCalls {
         ensures ok { OnOk result (list_pairs (pairs_in (held self.new))
             ≡ without_key key.now (list_pairs (pairs_in (held self.old)))) }
         ensures value { IfOk result (λ o. option_map tree_of o
-            ≡ found key.now (pairs_in (held self.old))) }
+            ≡ first_member_value key.now (pairs_in (held self.old))) }
         ensures children { IfOk result (λ o. ObjectChanged (TakesOut key.now o)
             (held self.old) (held self.new)) }
         ensures kept { OnErr result (held self.new ≡ held self.old) }
@@ -291,7 +291,7 @@ pub trait ObjectCalls {
             (own_members (entry_object e))) }
         ensures key { IfOk result (λ e. entry_key e ≡ key.now) }
         ensures value { IfOk result (λ e. option_map tree_of (entry_value e)
-            ≡ found key.now (pairs_in (held self.old))) }
+            ≡ first_member_value key.now (pairs_in (held self.old))) }
         ensures update { IfOk result (λ e. (w : Value) → list_pairs (pairs_in (entry_with e w))
             ≡ inserted key.now (tree_of w) (list_pairs (pairs_in (held self.old)))) }
         ensures only { OnlyNoMemory result };
@@ -332,7 +332,7 @@ impl ObjectCalls for Object {
     }
 
     fn get_mut(&mut self, alloc: Global, key: &str) -> Result<Option<&mut Value>> {
-        none_if_missing(value_of(self, alloc, key))
+        none_if_missing(added_value(self, alloc, key))
     }
 
     fn pair_mut(&mut self, alloc: Global, i: usize) -> Result<&mut Pair> {
@@ -396,7 +396,7 @@ impl ObjectCalls for Object {
     }
 
     fn extend(&mut self, alloc: Global, pairs: &[Pair]) -> Result<()> {
-        let copies = copy_pairs(alloc, pairs)?;
+        let copies = copy_pair_slice(alloc, pairs)?;
         let list = self.pairs_mut(alloc)?;
         list.reserve(copies.len())?;
         put_pairs(list, copies);

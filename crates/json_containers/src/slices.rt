@@ -6,7 +6,7 @@ ghost use Rattle.json_value.specs.Rows.{array_row, value_row, vec_row, owned};
 ghost use Rattle.json_containers.specs.IntoIter.{slice_row};
 ghost use Rattle.json_containers.specs.Slices.{LendsElements};
 
-use json_text::Result;
+use json_io::Result;
 use json_value::{Array, Value};
 use std::alloc::Global;
 

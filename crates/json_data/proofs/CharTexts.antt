@@ -10,7 +10,7 @@ use Rattle.json_model.specs.Datum.{text_datum}
 use Rattle.json_io.specs.declared.error.Error.{Error}
 use Rattle.json_io.specs.declared.error.ErrorCode.TheVariants.{TypeUnmatched}
 use Rattle.json_data.specs.Reader.{KeyReadingFails}
-use Rattle.json_tokens.specs.Refusals.{refusal}
+use Rattle.json_tokens.specs.Refusals.{error_without_place}
 use Rattle.json_data.specs.Reading.{Reading, gives, refuses, one_character, read_character}
 
 -- nothing is left after it
@@ -38,5 +38,5 @@ pub none_read : (s : List ℕ) → length (chars s) ≢ 1 → read_character (te
 none_read s n = rw (ne_eqb (length (chars s)) 1 n)
 
 -- a key is refused
-pub no_key : (says : List ℕ → Type 0) (f : List ℕ → Reading) (e : Error) → e ≡ refusal TypeUnmatched → ((s : List ℕ) → says s → f s ≡ refuses TypeUnmatched) → KeyReadingFails says f e
+pub no_key : (says : List ℕ → Type 0) (f : List ℕ → Reading) (e : Error) → e ≡ error_without_place TypeUnmatched → ((s : List ℕ) → says s → f s ≡ refuses TypeUnmatched) → KeyReadingFails says f e
 no_key says f e h k = subst (λ (x : Error). KeyReadingFails says f x) (sym h) (record { refused = λ p. (refl, k); gave_up = λ p. absurd (cc) })

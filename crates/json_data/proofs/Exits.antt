@@ -9,9 +9,9 @@ use Rattle.json_grammar.specs.Tree.{Tree, Trees, Token as Tok, null, boolean, nu
 use Rattle.json_grammar.specs.declared.Kind.TheVariants.{Array as array}
 use Rattle.json_model.specs.Datum.{Datum}
 use Rattle.json_data.specs.Reading.{Reading, gives, refuses, two, as_list, read_option}
-use Rattle.json_tokens.specs.Stand.{TokensState, TakesTokens, Peeks, TakesTree, Leaves, FirstIs, TokensFail}
+use Rattle.json_tokens.specs.TokensStates.{TokensState, TakesTokens, Peeks, TakesTree, Leaves, FirstIs, TokensFail}
 use Rattle.json_data.specs.Reader.{ReadsTree, StopsReading, Misses, GivesUp}
-use Rattle.json_tokens.specs.Refusals.{refusal, is_refusal}
+use Rattle.json_tokens.specs.Refusals.{error_without_place, is_refusal}
 use Rattle.json_data.proofs.Lists.{InList, join, one_more, leaves, peeks_on}
 
 pub join-join : (ts us vs : Trees) → join (join ts us) vs ≡ join ts (join us vs)
@@ -19,63 +19,63 @@ join-join no_trees us vs = refl
 join-join (tree_and t ts) us vs = ap (λ (ws : Trees). tree_and t ws) (join-join ts us vs)
 
 -- the element t was refused, and then the list was left
-pub refused_in : {S : Type 0} {taken : S → List Tok → Type 0} {stand : S → TokensState} {f h : Tree → Reading} {a b c d : S} {ts : Trees} {k : ErrorCode}
-    → InList taken stand a b ts → ReadsTree taken stand f b c (refuses k) → Leaves taken stand c d
+pub refused_in : {S : Type 0} {taken : S → List Tok → Type 0} {state : S → TokensState} {f h : Tree → Reading} {a b c d : S} {ts : Trees} {k : ErrorCode}
+    → InList taken state a b ts → ReadsTree taken state f b c (refuses k) → Leaves taken state c d
     → ((t : Tree) (us : Trees) → f t ≡ refuses k → h (list (join ts (tree_and t us))) ≡ refuses k)
-    → ReadsTree taken stand h a d (refuses k)
-refused_in {taken = taken} {stand = stand} {a = a} {d = d} {ts = ts} w r l q =
+    → ReadsTree taken state h a d (refuses k)
+refused_in {taken = taken} {state = state} {a = a} {d = d} {ts = ts} w r l q =
     let p = leaves (one_more w r.takes) l in
     let e : join (join ts (tree_and r.tree no_trees)) p.0 ≡ join ts (tree_and r.tree p.0) = join-join ts (tree_and r.tree no_trees) p.0 in
     record {
       tree = list (join ts (tree_and r.tree p.0));
-      takes = subst (λ (us : Trees). TakesTree taken stand a d (list us)) e p.1;
+      takes = subst (λ (us : Trees). TakesTree taken state a d (list us)) e p.1;
       answer = q r.tree p.0 r.answer;
     }
 
 -- a refusal of a whole tree
-pub refusing : {S : Type 0} {taken : S → List Tok → Type 0} {stand : S → TokensState} {h : Tree → Reading} {a d : S} {e : Error}
-    → is_refusal e.code ≡ true → e ≡ refusal e.code → ReadsTree taken stand h a d (refuses e.code) → StopsReading taken stand h a d e
+pub refusing : {S : Type 0} {taken : S → List Tok → Type 0} {state : S → TokensState} {h : Tree → Reading} {a d : S} {e : Error}
+    → is_refusal e.code ≡ true → e ≡ error_without_place e.code → ReadsTree taken state h a d (refuses e.code) → StopsReading taken state h a d e
 refusing p e r = record { refused = λ _. (e, r); gave_up = λ q. cc }
 
-pub giving_up : {S : Type 0} {taken : S → List Tok → Type 0} {stand : S → TokensState} {h : Tree → Reading} {a d : S} {e : Error}
-    → GivesUp (stand a) (stand d) e → StopsReading taken stand h a d e
+pub giving_up : {S : Type 0} {taken : S → List Tok → Type 0} {state : S → TokensState} {h : Tree → Reading} {a d : S} {e : Error}
+    → GivesUp (state a) (state d) e → StopsReading taken state h a d e
 giving_up g = record { refused = λ q. absurd (let p = g.no_refusal in cc); gave_up = λ _. g }
 
-pub stop_in_at : {S : Type 0} {taken : S → List Tok → Type 0} {stand : S → TokensState} {f h : Tree → Reading} {a b c d : S} {ts : Trees} {e r : Error}
-    → (v : Bool) → is_refusal e.code ≡ v → InList taken stand a b ts → StopsReading taken stand f b c e
-    → (is_refusal e.code ≡ true → ((r ≡ e) × Leaves taken stand c d) ⊎ TokensFail (stand c) (stand d) r)
+pub stop_in_at : {S : Type 0} {taken : S → List Tok → Type 0} {state : S → TokensState} {f h : Tree → Reading} {a b c d : S} {ts : Trees} {e r : Error}
+    → (v : Bool) → is_refusal e.code ≡ v → InList taken state a b ts → StopsReading taken state f b c e
+    → (is_refusal e.code ≡ true → ((r ≡ e) × Leaves taken state c d) ⊎ TokensFail (state c) (state d) r)
     → (is_refusal e.code ≡ false → (r ≡ e) × (d ≡ c))
     → ((t : Tree) (us : Trees) → f t ≡ refuses e.code → h (list (join ts (tree_and t us))) ≡ refuses e.code)
-    → StopsReading taken stand h a d r
-stop_in_at {S = S} {taken = taken} {stand = stand} {h = h} {a = a} {b = b} {c = c} {d = d} {e = e} {r = r} true p w s l k q =
+    → StopsReading taken state h a d r
+stop_in_at {S = S} {taken = taken} {state = state} {h = h} {a = a} {b = b} {c = c} {d = d} {e = e} {r = r} true p w s l k q =
     let x = s.refused p in
     elim (l p) [
-      | inl y ↦ subst (λ (z : Error). StopsReading taken stand h a d z) (sym y.0) (refusing p x.0 (refused_in w x.1 y.1 q))
+      | inl y ↦ subst (λ (z : Error). StopsReading taken state h a d z) (sym y.0) (refusing p x.0 (refused_in w x.1 y.1 q))
       | inr y ↦ giving_up (record { input = y.input ∙ x.1.takes.moves.input ∙ w.input; no_refusal = y.no_refusal; cause = inr y.failed })
     ]
-stop_in_at {S = S} {taken = taken} {stand = stand} {h = h} {a = a} {b = b} {c = c} {d = d} {e = e} {r = r} false p w s l k q =
+stop_in_at {S = S} {taken = taken} {state = state} {h = h} {a = a} {b = b} {c = c} {d = d} {e = e} {r = r} false p w s l k q =
     let x = s.gave_up p in
     let y = k p in
-    let u : StopsReading taken stand h a c e = giving_up (record { input = x.input ∙ w.input; no_refusal = x.no_refusal; cause = x.cause }) in
-    subst (λ (z : Error). StopsReading taken stand h a d z) (sym y.0) (subst (λ (z : S). StopsReading taken stand h a z e) (sym y.1) u)
+    let u : StopsReading taken state h a c e = giving_up (record { input = x.input ∙ w.input; no_refusal = x.no_refusal; cause = x.cause }) in
+    subst (λ (z : Error). StopsReading taken state h a d z) (sym y.0) (subst (λ (z : S). StopsReading taken state h a z e) (sym y.1) u)
 
-pub stop_in : {S : Type 0} {taken : S → List Tok → Type 0} {stand : S → TokensState} {f h : Tree → Reading} {a b c d : S} {ts : Trees} {e r : Error}
-    → InList taken stand a b ts → StopsReading taken stand f b c e
-    → (is_refusal e.code ≡ true → ((r ≡ e) × Leaves taken stand c d) ⊎ TokensFail (stand c) (stand d) r)
+pub stop_in : {S : Type 0} {taken : S → List Tok → Type 0} {state : S → TokensState} {f h : Tree → Reading} {a b c d : S} {ts : Trees} {e r : Error}
+    → InList taken state a b ts → StopsReading taken state f b c e
+    → (is_refusal e.code ≡ true → ((r ≡ e) × Leaves taken state c d) ⊎ TokensFail (state c) (state d) r)
     → (is_refusal e.code ≡ false → (r ≡ e) × (d ≡ c))
     → ((t : Tree) (us : Trees) → f t ≡ refuses e.code → h (list (join ts (tree_and t us))) ≡ refuses e.code)
-    → StopsReading taken stand h a d r
+    → StopsReading taken state h a d r
 stop_in {e = e} = stop_in_at (is_refusal e.code) refl
 
-pub mismatch : {S : Type 0} {taken : S → List Tok → Type 0} {stand : S → TokensState} {h : Tree → Reading} {a d : S} {r : Error} {t : Tree}
-    → r ≡ refusal TypeUnmatched → TakesTree taken stand a d t → h t ≡ refuses TypeUnmatched → StopsReading taken stand h a d r
-mismatch {taken = taken} {stand = stand} {h = h} {a = a} {d = d} {t = t} e x y =
-    subst (λ (z : Error). StopsReading taken stand h a d z) (sym e) (refusing refl refl (record { tree = t; takes = x; answer = y }))
+pub mismatch : {S : Type 0} {taken : S → List Tok → Type 0} {state : S → TokensState} {h : Tree → Reading} {a d : S} {r : Error} {t : Tree}
+    → r ≡ error_without_place TypeUnmatched → TakesTree taken state a d t → h t ≡ refuses TypeUnmatched → StopsReading taken state h a d r
+mismatch {taken = taken} {state = state} {h = h} {a = a} {d = d} {t = t} e x y =
+    subst (λ (z : Error). StopsReading taken state h a d z) (sym e) (refusing refl refl (record { tree = t; takes = x; answer = y }))
 
-pub out_of_range : {S : Type 0} {taken : S → List Tok → Type 0} {stand : S → TokensState} {h : Tree → Reading} {a d : S} {r : Error} {t : Tree}
-    → r ≡ refusal NumberOutOfRange → TakesTree taken stand a d t → h t ≡ refuses NumberOutOfRange → StopsReading taken stand h a d r
-out_of_range {taken = taken} {stand = stand} {h = h} {a = a} {d = d} {t = t} e x y =
-    subst (λ (z : Error). StopsReading taken stand h a d z) (sym e) (refusing refl refl (record { tree = t; takes = x; answer = y }))
+pub out_of_range : {S : Type 0} {taken : S → List Tok → Type 0} {state : S → TokensState} {h : Tree → Reading} {a d : S} {r : Error} {t : Tree}
+    → r ≡ error_without_place NumberOutOfRange → TakesTree taken state a d t → h t ≡ refuses NumberOutOfRange → StopsReading taken state h a d r
+out_of_range {taken = taken} {state = state} {h = h} {a = a} {d = d} {t = t} e x y =
+    subst (λ (z : Error). StopsReading taken state h a d z) (sym e) (refusing refl refl (record { tree = t; takes = x; answer = y }))
 
 -- what is left begins with no end
 pub another : (h : Tree → Reading) (ts : Trees) (k : TokenKind) (xs : List Tok) → FirstIs xs k → k ≢ EndArray
@@ -85,13 +85,13 @@ another h ts k xs f n q no_trees i = absurd (n (sym (subst (λ (ys : List Tok). 
 another h ts k xs f n q (tree_and t us) i = q t us
 
 -- another element follows, and the list is left
-pub longer : {S : Type 0} {taken : S → List Tok → Type 0} {stand : S → TokensState} {h : Tree → Reading} {a b c d : S} {ts : Trees} {k : TokenKind} {r : Error}
-    → r ≡ refusal TypeUnmatched → InList taken stand a b ts → Peeks (stand b) (stand c) k → TakesTokens taken b [] c → k ≢ EndArray → Leaves taken stand c d
+pub longer : {S : Type 0} {taken : S → List Tok → Type 0} {state : S → TokensState} {h : Tree → Reading} {a b c d : S} {ts : Trees} {k : TokenKind} {r : Error}
+    → r ≡ error_without_place TypeUnmatched → InList taken state a b ts → Peeks (state b) (state c) k → TakesTokens taken b [] c → k ≢ EndArray → Leaves taken state c d
     → ((t : Tree) (us : Trees) → h (list (join ts (tree_and t us))) ≡ refuses TypeUnmatched)
-    → StopsReading taken stand h a d r
-longer {taken = taken} {stand = stand} {h = h} {a = a} {d = d} {ts = ts} {k = k} e w y z n l q =
+    → StopsReading taken state h a d r
+longer {taken = taken} {state = state} {h = h} {a = a} {d = d} {ts = ts} {k = k} e w y z n l q =
     let p = leaves (peeks_on w y z) l in
-    mismatch e p.1 (another h ts k l.rest (l.as_told k y.told) n (λ t us. q t us) p.0 p.2)
+    mismatch e p.1 (another h ts k l.rest (l.as_peeked k y.peeked) n (λ t us. q t us) p.0 p.2)
 
 -- ---- trees other than null
 
@@ -104,15 +104,15 @@ option_tree f (list ts) k e = (λ h. cc, e)
 option_tree f (pairs ps) k e = (λ h. cc, e)
 
 -- where null is not refused, a tree that is refused is another
-pub missed : {S : Type 0} {taken : S → List Tok → Type 0} {stand : S → TokensState} {f : Tree → Reading} {a b : S} {e : Error}
-    → StopsReading taken stand (read_option f) a b e → Misses taken stand f a b e
+pub missed : {S : Type 0} {taken : S → List Tok → Type 0} {state : S → TokensState} {f : Tree → Reading} {a b : S} {e : Error}
+    → StopsReading taken state (read_option f) a b e → Misses taken state f a b e
 missed {f = f} {e = e} h = record {
   refused = λ p. let k = h.refused p in let o = option_tree f k.1.tree e.code k.1.answer in (k.0, record { tree = k.1.tree; takes = k.1.takes; answer = o.1; some = o.0 });
   gave_up = h.gave_up;
 }
 
-pub misses_stop : {S : Type 0} {taken : S → List Tok → Type 0} {stand : S → TokensState} {f : Tree → Reading} {a b : S} {e : Error}
-    → Misses taken stand f a b e → StopsReading taken stand f a b e
+pub misses_stop : {S : Type 0} {taken : S → List Tok → Type 0} {state : S → TokensState} {f : Tree → Reading} {a b : S} {e : Error}
+    → Misses taken state f a b e → StopsReading taken state f a b e
 misses_stop h = record { refused = λ p. let k = h.refused p in (k.0, record { tree = k.1.tree; takes = k.1.takes; answer = k.1.answer }); gave_up = h.gave_up }
 
 -- ---- pairs

@@ -10,8 +10,8 @@ use Rattle.json_grammar.specs.declared.Kind.TheVariants.{Array as array, Object 
 use Rattle.json_model.specs.Datum.{Datum}
 use Rattle.json_data.specs.Reading.{Reading, gives, refuses, Series, gives_all, stops, prepend_reading, each}
 use Rattle.json_grammar.specs.TokenStates.{TokenState, Expected, a_value, element_or_end, name_or_end, nothing, state_in, state_after_value, after_token}
-use Rattle.json_tokens.specs.Spots.{around, InArray, BeforeElement}
-use Rattle.json_tokens.specs.Stand.{TokensState, TakesTokens, Peeks, AsTold, TakesTree, TakesOne, Leaves, Rest}
+use Rattle.json_tokens.specs.ExpectedTokens.{around, InArray, BeforeElement}
+use Rattle.json_tokens.specs.TokensStates.{TokensState, TakesTokens, Peeks, MatchesPeek, TakesTree, TakesOne, Leaves, RestOfContainer}
 use Rattle.json_tokens.proofs.Steps.{joins, is_begin, is_end}
 
 abbrev pub join : Trees → Trees → Trees
@@ -23,84 +23,84 @@ tokens-join no_trees us = refl
 tokens-join (tree_and t ts) us = ap (λ (xs : List Tok). tokens t ++ xs) (tokens-join ts us) ∙ sym (append_assoc (tokens t) (trees_tokens ts) (trees_tokens us))
 
 -- the source is in a list, after the elements ts
-pub record InList {S : Type 0} (taken : S → List Tok → Type 0) (stand : S → TokensState) (a b : S) (ts : Trees) : Type 0 where
+pub record InList {S : Type 0} (taken : S → List Tok → Type 0) (state : S → TokensState) (a b : S) (ts : Trees) : Type 0 where
   pub takes : TakesTokens taken a (begin array ∷ trees_tokens ts) b
-  pub input : (stand b).input ≡ (stand a).input
-  pub spot : (stand b).spot ≡ after_token (stand a).spot (begin array)
-  pub left : (stand b).left < (stand a).left
-  pub as_told : AsTold (stand a) BeginArray
+  pub input : (state b).input ≡ (state a).input
+  pub expected : (state b).expected ≡ after_token (state a).expected (begin array)
+  pub left : (state b).left < (state a).left
+  pub as_peeked : MatchesPeek (state a) BeginArray
 
-pub opens : {S : Type 0} {taken : S → List Tok → Type 0} {stand : S → TokensState} {a b c : S} {x : Tok} {k : TokenKind}
-    → k ≡ BeginArray → Peeks (stand a) (stand b) k → TakesTokens taken a [] b → TakesOne taken stand b c x → InList taken stand a c no_trees
-opens {taken = taken} {stand = stand} {a = a} {b = b} {c = c} {x = x} i y z r =
-    let h = subst (λ (j : TokenKind). Peeks (stand a) (stand b) j) i y in
-    let e : x ≡ begin array = is_begin x (r.as_told.told BeginArray h.told) in
+pub opens : {S : Type 0} {taken : S → List Tok → Type 0} {state : S → TokensState} {a b c : S} {x : Tok} {k : TokenKind}
+    → k ≡ BeginArray → Peeks (state a) (state b) k → TakesTokens taken a [] b → TakesOne taken state b c x → InList taken state a c no_trees
+opens {taken = taken} {state = state} {a = a} {b = b} {c = c} {x = x} i y z r =
+    let h = subst (λ (j : TokenKind). Peeks (state a) (state b) j) i y in
+    let e : x ≡ begin array = is_begin x (r.as_peeked.peeked BeginArray h.peeked) in
     record {
       takes = subst (λ (y : Tok). TakesTokens taken a (y ∷ []) c) e (joins z r.takes);
       input = r.moves.input ∙ h.input;
-      spot = r.moves.spot ∙ ap (λ (y : Tok). after_token (stand b).spot y) e ∙ ap (λ (p : TokenState). after_token p (begin array)) h.spot;
+      expected = r.moves.expected ∙ ap (λ (y : Tok). after_token (state b).expected y) e ∙ ap (λ (p : TokenState). after_token p (begin array)) h.expected;
       left = omega (arith, h.left, r.moves.left);
-      as_told = record { may = h.may; told = h.again };
+      as_peeked = record { may = h.may; peeked = h.again };
     }
 
-pub begun : {S : Type 0} {taken : S → List Tok → Type 0} {stand : S → TokensState} {a c : S} → TakesOne taken stand a c (begin array) → InList taken stand a c no_trees
-begun r = record { takes = r.takes; input = r.moves.input; spot = r.moves.spot; left = r.moves.left; as_told = r.as_told }
+pub begun : {S : Type 0} {taken : S → List Tok → Type 0} {state : S → TokensState} {a c : S} → TakesOne taken state a c (begin array) → InList taken state a c no_trees
+begun r = record { takes = r.takes; input = r.moves.input; expected = r.moves.expected; left = r.moves.left; as_peeked = r.as_peeked }
 
-pub ended : {S : Type 0} {taken : S → List Tok → Type 0} {stand : S → TokensState} {a b c : S} {ts : Trees}
-    → InList taken stand a b ts → TakesOne taken stand b c (end array) → TakesTree taken stand a c (list ts)
+pub ended : {S : Type 0} {taken : S → List Tok → Type 0} {state : S → TokensState} {a b c : S} {ts : Trees}
+    → InList taken state a b ts → TakesOne taken state b c (end array) → TakesTree taken state a c (list ts)
 ended w r = record {
   takes = joins w.takes r.takes;
-  moves = record { input = r.moves.input ∙ w.input; spot = r.moves.spot ∙ ap (λ (p : TokenState). around p) w.spot; told = r.moves.told; left = omega (arith, w.left, r.moves.left) };
-  as_told = w.as_told;
+  moves = record { input = r.moves.input ∙ w.input; expected = r.moves.expected ∙ ap (λ (p : TokenState). around p) w.expected; peeked = r.moves.peeked; left = omega (arith, w.left, r.moves.left) };
+  as_peeked = w.as_peeked;
 }
 
-pub still_in : {S : Type 0} {taken : S → List Tok → Type 0} {stand : S → TokensState} {a b c : S} {ts : Trees}
-    → c ≡ b → InList taken stand a b ts → InList taken stand a c ts
-still_in {S = S} {taken = taken} {stand = stand} {a = a} {ts = ts} e w = subst (λ (s : S). InList taken stand a s ts) (sym e) w
+pub still_in : {S : Type 0} {taken : S → List Tok → Type 0} {state : S → TokensState} {a b c : S} {ts : Trees}
+    → c ≡ b → InList taken state a b ts → InList taken state a c ts
+still_in {S = S} {taken = taken} {state = state} {a = a} {ts = ts} e w = subst (λ (s : S). InList taken state a s ts) (sym e) w
 
-pub peeks_on : {S : Type 0} {taken : S → List Tok → Type 0} {stand : S → TokensState} {a b c : S} {k : TokenKind} {ts : Trees}
-    → InList taken stand a b ts → Peeks (stand b) (stand c) k → TakesTokens taken b [] c → InList taken stand a c ts
+pub peeks_on : {S : Type 0} {taken : S → List Tok → Type 0} {state : S → TokensState} {a b c : S} {k : TokenKind} {ts : Trees}
+    → InList taken state a b ts → Peeks (state b) (state c) k → TakesTokens taken b [] c → InList taken state a c ts
 peeks_on {taken = taken} {a = a} {c = c} {ts = ts} w h z = record {
   takes = subst (λ (xs : List Tok). TakesTokens taken a xs c) (append-nil (begin array ∷ trees_tokens ts)) (joins w.takes z);
   input = h.input ∙ w.input;
-  spot = h.spot ∙ w.spot;
+  expected = h.expected ∙ w.expected;
   left = omega (arith, w.left, h.left);
-  as_told = w.as_told;
+  as_peeked = w.as_peeked;
 }
 
-pub one_more : {S : Type 0} {taken : S → List Tok → Type 0} {stand : S → TokensState} {a b c : S} {ts : Trees} {t : Tree}
-    → InList taken stand a b ts → TakesTree taken stand b c t → InList taken stand a c (join ts (tree_and t no_trees))
+pub one_more : {S : Type 0} {taken : S → List Tok → Type 0} {state : S → TokensState} {a b c : S} {ts : Trees} {t : Tree}
+    → InList taken state a b ts → TakesTree taken state b c t → InList taken state a c (join ts (tree_and t no_trees))
 one_more {taken = taken} {a = a} {c = c} {ts = ts} {t = t} w r =
     let e : trees_tokens (join ts (tree_and t no_trees)) ≡ trees_tokens ts ++ tokens t = tokens-join ts (tree_and t no_trees) ∙ ap (λ (xs : List Tok). trees_tokens ts ++ xs) (append-nil (tokens t)) in
     record {
       takes = subst (λ (xs : List Tok). TakesTokens taken a (begin array ∷ xs) c) (sym e) (joins w.takes r.takes);
       input = r.moves.input ∙ w.input;
-      spot = r.moves.spot ∙ ap (λ (p : TokenState). state_after_value p) w.spot;
+      expected = r.moves.expected ∙ ap (λ (p : TokenState). state_after_value p) w.expected;
       left = omega (arith, w.left, r.moves.left);
-      as_told = w.as_told;
+      as_peeked = w.as_peeked;
     }
 
-pub closes : {S : Type 0} {taken : S → List Tok → Type 0} {stand : S → TokensState} {a b c d : S} {ts : Trees} {x : Tok} {k : TokenKind}
-    → k ≡ EndArray → InList taken stand a b ts → Peeks (stand b) (stand c) k → TakesTokens taken b [] c → TakesOne taken stand c d x → TakesTree taken stand a d (list ts)
-closes {taken = taken} {stand = stand} {a = a} {b = b} {c = c} {d = d} {ts = ts} {x = x} i w y z r =
-    let h = subst (λ (j : TokenKind). Peeks (stand b) (stand c) j) i y in
+pub closes : {S : Type 0} {taken : S → List Tok → Type 0} {state : S → TokensState} {a b c d : S} {ts : Trees} {x : Tok} {k : TokenKind}
+    → k ≡ EndArray → InList taken state a b ts → Peeks (state b) (state c) k → TakesTokens taken b [] c → TakesOne taken state c d x → TakesTree taken state a d (list ts)
+closes {taken = taken} {state = state} {a = a} {b = b} {c = c} {d = d} {ts = ts} {x = x} i w y z r =
+    let h = subst (λ (j : TokenKind). Peeks (state b) (state c) j) i y in
     let v = peeks_on w h z in
-    let e : x ≡ end array = is_end x (r.as_told.told EndArray h.told) in
+    let e : x ≡ end array = is_end x (r.as_peeked.peeked EndArray h.peeked) in
     record {
       takes = subst (λ (y : Tok). TakesTokens taken a (begin array ∷ (trees_tokens ts ++ y ∷ [])) d) e (joins v.takes r.takes);
       moves = record {
         input = r.moves.input ∙ v.input;
-        spot = r.moves.spot ∙ ap (λ (y : Tok). after_token (stand c).spot y) e ∙ ap (λ (p : TokenState). around p) v.spot;
-        told = r.moves.told;
+        expected = r.moves.expected ∙ ap (λ (y : Tok). after_token (state c).expected y) e ∙ ap (λ (p : TokenState). around p) v.expected;
+        peeked = r.moves.peeked;
         left = omega (arith, v.left, r.moves.left);
       };
-      as_told = w.as_told;
+      as_peeked = w.as_peeked;
     }
 
-pub leaves : {S : Type 0} {taken : S → List Tok → Type 0} {stand : S → TokensState} {a b c : S} {ts : Trees}
-    → InList taken stand a b ts → (r : Leaves taken stand b c) → (us : Trees) × TakesTree taken stand a c (list (join ts us)) × (r.rest ≡ trees_tokens us ++ end array ∷ [])
-leaves {taken = taken} {stand = stand} {a = a} {b = b} {c = c} {ts = ts} w r =
-    let rest : (us : Trees) × (r.rest ≡ trees_tokens us ++ end array ∷ []) = subst (λ (p : TokenState). Rest p r.rest) w.spot r.is_rest in
+pub leaves : {S : Type 0} {taken : S → List Tok → Type 0} {state : S → TokensState} {a b c : S} {ts : Trees}
+    → InList taken state a b ts → (r : Leaves taken state b c) → (us : Trees) × TakesTree taken state a c (list (join ts us)) × (r.rest ≡ trees_tokens us ++ end array ∷ [])
+leaves {taken = taken} {state = state} {a = a} {b = b} {c = c} {ts = ts} w r =
+    let rest : (us : Trees) × (r.rest ≡ trees_tokens us ++ end array ∷ []) = subst (λ (p : TokenState). RestOfContainer p r.rest) w.expected r.is_rest in
     let us = rest.0 in
     let e : trees_tokens ts ++ r.rest ≡ trees_tokens (join ts us) ++ end array ∷ [] =
     ap (λ (xs : List Tok). trees_tokens ts ++ xs) rest.1 ∙ sym (append_assoc (trees_tokens ts) (trees_tokens us) (end array ∷ []))
@@ -110,11 +110,11 @@ leaves {taken = taken} {stand = stand} {a = a} {b = b} {c = c} {ts = ts} w r =
         takes = subst (λ (xs : List Tok). TakesTokens taken a (begin array ∷ xs) c) e (joins w.takes r.takes);
         moves = record {
           input = r.moves.input ∙ w.input;
-          spot = r.moves.spot ∙ ap (λ (p : TokenState). around p) w.spot;
-          told = r.moves.told;
+          expected = r.moves.expected ∙ ap (λ (p : TokenState). around p) w.expected;
+          peeked = r.moves.peeked;
           left = omega (arith, w.left, r.moves.left);
         };
-        as_told = w.as_told;
+        as_peeked = w.as_peeked;
       },
       rest.1,
     )
@@ -131,8 +131,8 @@ in_array_again p q i e = subst (λ (s : TokenState). InArray s) (sym e) (by p.ex
     by name_or_end c i = absurd i
     by nothing c i = absurd i
 
-pub still_array : {S : Type 0} (stand : S → TokensState) {b c : S} → c ≡ b → InArray (stand b).spot → InArray (stand c).spot
-still_array {S = S} stand e i = subst (λ (s : S). InArray (stand s).spot) (sym e) i
+pub still_array : {S : Type 0} (state : S → TokensState) {b c : S} → c ≡ b → InArray (state b).expected → InArray (state c).expected
+still_array {S = S} state e i = subst (λ (s : S). InArray (state s).expected) (sym e) i
 
 -- ---- what the elements give
 

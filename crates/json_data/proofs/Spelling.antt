@@ -33,15 +33,15 @@ taken_none f xs rest got e n = record { whole = itself (each_in f xs) ∙ ap₂ 
 pub taken_all : {A : Type 0} (f : Tree → Option A) (xs rest : List Tree) (got : List A) → Taken f xs rest got → rest ≡ [] → each_in f xs ≡ Some got
 taken_all f xs rest got h e = h.whole ∙ ap (λ ys. option_map (λ r. got ++ r) (each_in f ys)) e ∙ ap Some (append-nil got)
 
-behind : {A : Type 0} (got : List A) (x : A) (o : Option (List A)) → option_map (λ r. got ++ r) (both (λ x xs. x ∷ xs) (Some x) o) ≡ option_map (λ r. (got ++ x ∷ []) ++ r) o
-behind got x None = refl
-behind got x (Some r) = ap Some (sym (append_assoc got (x ∷ []) r))
+after : {A : Type 0} (got : List A) (x : A) (o : Option (List A)) → option_map (λ r. got ++ r) (both (λ x xs. x ∷ xs) (Some x) o) ≡ option_map (λ r. (got ++ x ∷ []) ++ r) o
+after got x None = refl
+after got x (Some r) = ap Some (sym (append_assoc got (x ∷ []) r))
 
 pub taken_next : {A : Type 0} (f : Tree → Option A) (xs more rest : List Tree) (got got' : List A) (t : Tree) (x : A) → Taken f xs more got → more ≡ t ∷ rest → f t ≡ Some x → got' ≡ got ++ x ∷ [] → Taken f xs rest got'
 taken_next f xs more rest got got' t x h e k g =
     subst (Taken f xs rest) (sym g)
     (record {
-      whole = h.whole ∙ ap (λ ys. option_map (λ r. got ++ r) (each_in f ys)) e ∙ ap (λ o. option_map (λ r. got ++ r) (both (λ x xs. x ∷ xs) o (each_in f rest))) k ∙ behind got x (each_in f rest);
+      whole = h.whole ∙ ap (λ ys. option_map (λ r. got ++ r) (each_in f ys)) e ∙ ap (λ o. option_map (λ r. got ++ r) (both (λ x xs. x ∷ xs) o (each_in f rest))) k ∙ after got x (each_in f rest);
     })
 
 both_none : {A B C : Type 0} (f : A → B → C) (o : Option B) → both f None o ≡ None

@@ -16,7 +16,7 @@ use Rattle.json_text.specs.Faults.{FaultFrom}
 use Rattle.json_text.specs.Parsing.{input}
 use Rattle.json_text.proofs.NoText.{fault_at}
 use Rattle.json_data.specs.Reading.{Reading, refuses}
-use Rattle.json_tokens.specs.Stand.{over_text, TakesTree}
+use Rattle.json_tokens.specs.TokensStates.{over_text, TakesTree}
 use Rattle.json_tokens.specs.Text.{TextTokensState, TextFails, text_taken, text_tokens_state}
 use Rattle.json_data.specs.Calls.{ReadsTypedText, TypedReadingFails, ValueBegins}
 

@@ -10,7 +10,7 @@ use Rattle.std.specs.declared.cmp.Ordering.{Ordering}
 use Rattle.std.specs.declared.cmp.Ordering.TheVariants.{Less, Equal, Greater}
 use Rattle.json_model.specs.Datum.{Datum, null_datum, boolean_datum, text_datum, option_datum}
 use Rattle.json_number.specs.Integers.{whole_in}
-use Rattle.json_number.specs.Tests.{is_number}
+use Rattle.json_number.specs.Tests.{is_number_text}
 use Rattle.json_io.specs.declared.error.ErrorCode.TheVariants.{TypeUnmatched, ExpectedNumericKey}
 use Rattle.json_data.specs.Reading.{Reading, gives, refuses, in_range, key_cmp}
 
@@ -22,7 +22,7 @@ boolean_key s = if bytes_eq s (codes "true") then gives (boolean_datum true) els
 
 -- the whole key is a number, and that an integer of the type
 abbrev pub integer_key : (ℤ → Bool) → List ℕ → Reading
-integer_key fits s = if is_number s then in_range fits (whole_in s) else refuses ExpectedNumericKey
+integer_key fits s = if is_number_text s then in_range fits (whole_in s) else refuses ExpectedNumericKey
 
 -- no key means null
 abbrev pub IsNamed : Reading → Type 0
@@ -38,7 +38,7 @@ in_range_named fits None = tt
 in_range_named fits (Some n) = either_named (fits n) _ _ tt tt
 
 pub integer_named : (fits : ℤ → Bool) (s : List ℕ) → IsNamed (integer_key fits s)
-integer_named fits s = either_named (is_number s) _ _ (in_range_named fits (whole_in s)) tt
+integer_named fits s = either_named (is_number_text s) _ _ (in_range_named fits (whole_in s)) tt
 
 pub boolean_named : (s : List ℕ) → IsNamed (boolean_key s)
 boolean_named s = either_named (bytes_eq s (codes "true")) _ _ tt (either_named (bytes_eq s (codes "false")) _ _ tt tt)

@@ -8,7 +8,7 @@ use Rattle.std.specs.declared.cmp.Ordering.TheVariants.{Equal}
 use Rattle.json_grammar.specs.Tree.{Tree, null, boolean, num, text, list, pairs, Trees, no_trees, tree_and, Pairs, no_pairs, pair_and}
 use Rattle.json_model.specs.Datum.{Datum, null_datum, boolean_datum, integer_datum, text_datum, literal_datum, list_datum, rows_datum, Rows, no_rows, row_and, list_data}
 use Rattle.json_number.specs.Integers.{integer_in, whole_in}
-use Rattle.json_number.specs.Tests.{is_number}
+use Rattle.json_number.specs.Tests.{is_number_text}
 use Rattle.json_io.specs.declared.error.ErrorCode.{ErrorCode}
 use Rattle.json_io.specs.declared.error.ErrorCode.TheVariants.{TypeUnmatched, NumberOutOfRange}
 
@@ -95,9 +95,9 @@ abbrev pub read_integer : (ℤ → Bool) → Tree → Reading
 read_integer fits t = in_range fits (tree_integer t)
 
 -- from -low on, and below high
-abbrev pub between : ℕ → ℕ → ℤ → Bool
-between low high (pos n) = nat_lt n high
-between low high (negsuc n) = nat_lt n low
+abbrev pub is_between : ℕ → ℕ → ℤ → Bool
+is_between low high (pos n) = nat_lt n high
+is_between low high (negsuc n) = nat_lt n low
 
 -- an integer by value: every other integer literal is out of range
 abbrev pub by_value : Option ℤ → Option ℤ → Reading
@@ -112,7 +112,7 @@ read_number _ = refuses TypeUnmatched
 -- a number, or a text that is one
 abbrev pub read_literal : Tree → Reading
 read_literal (num l) = gives (literal_datum l)
-read_literal (text s) = if is_number s then gives (literal_datum s) else refuses TypeUnmatched
+read_literal (text s) = if is_number_text s then gives (literal_datum s) else refuses TypeUnmatched
 read_literal _ = refuses TypeUnmatched
 
 -- ---- keys, and pairs of them
@@ -145,4 +145,4 @@ read_map f h _ = refuses TypeUnmatched
 
 -- an integer that is returned lies between them
 abbrev pub ReturnsBetween : {E : Type 0} → ℕ → ℕ → Result ℤ E → Type 0
-ReturnsBetween low high result = IfOk result (λ n. between low high n ≡ true)
+ReturnsBetween low high result = IfOk result (λ n. is_between low high n ≡ true)

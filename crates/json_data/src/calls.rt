@@ -10,9 +10,9 @@ ghost use Rattle.json_data.specs.Calls.{ReadsTypedText, TypedReadingFails, HasDa
 
 use crate::deserialize::{Deserialize, DeserializeFrom};
 use json_doc::read_document_with;
-use json_text::{
-    Error, ErrorCode, Place, Result, Rules, Source, check_utf8, place_of, read_all, ws_run,
-};
+use json_io::{Error, ErrorCode, Place, Result, Source, check_utf8, place_of, read_all};
+use json_scan::ws_run;
+use json_text::Rules;
 use json_tokens::{TextTokens, is_refusal};
 use std::alloc::Global;
 use std::str::from_utf8_unchecked;
@@ -24,7 +24,7 @@ const MOST: usize = 4_294_967_295;
 const LEVELS: u32 = 254;
 
 // More bytes than a text may have.
-fn too_large() -> Error
+fn too_large_error() -> Error
     ensures { result ≡ spec_too_large }
 {
     Error {
@@ -34,7 +34,7 @@ fn too_large() -> Error
 }
 
 // The bytes as a text.
-fn text_of(json: &[u8]) -> Result<&str>
+fn utf8_text(json: &[u8]) -> Result<&str>
     ensures same { IfOk result (λ text. text.now ≡ json.now) }
     ensures valid { IfOk result (λ _. IsUtf8 json.now) }
     ensures size { IfOk result (λ _. length json.now < 2 ^ 32) }
@@ -42,7 +42,7 @@ fn text_of(json: &[u8]) -> Result<&str>
     ensures large { RefusesTooLarge json.now result }
 {
     if json.len() > MOST {
-        return Err(too_large());
+        return Err(too_large_error());
     }
     check_utf8(json)
 }
@@ -90,7 +90,7 @@ pub fn from_str<'a, T: Deserialize<'a> + Drop>(alloc: Global, s: &'a str) -> Res
     ensures large { 2 ^ 32 ≤ length s.now → IsErrOf result spec_too_large }
 {
     if s.len() > MOST {
-        return Err(too_large());
+        return Err(too_large_error());
     }
     read_text(alloc, s, LEVELS)
 }
@@ -104,7 +104,7 @@ pub fn from_slice<'a, T: Deserialize<'a> + Drop>(alloc: Global, json: &'a [u8]) 
     ensures complete { ReadsUnlessNoMemory T.from_tree json.now result }
     ensures large { RefusesTooLarge json.now result }
 {
-    let text = text_of(json)?;
+    let text = utf8_text(json)?;
     read_text(alloc, text, LEVELS)
 }
 
@@ -159,7 +159,7 @@ pub fn from_slice_with<'a, T: Deserialize<'a> + Drop>(
         TypedReadingFailsWith (rules_of rules) T.from_tree json.now e.code e.place) }
     ensures large { RefusesTooLarge json.now result }
 {
-    let text = text_of(json)?;
+    let text = utf8_text(json)?;
     if rules.unique() {
         read_unique(alloc, text, rules)
     } else {
@@ -168,13 +168,13 @@ pub fn from_slice_with<'a, T: Deserialize<'a> + Drop>(
 }
 
 // Puts all that the source has left into the room, in place of what it had.
-fn fill<S: Source>(alloc: Global, source: &mut S, room: &mut Vec<u8>) -> Result<()>
+fn read_source<S: Source>(alloc: Global, source: &mut S, room: &mut Vec<u8>) -> Result<()>
     ensures bytes { OnOk result
         (ReadsWithin most (S.state source.old) (S.state source.new) room.new.items) }
     ensures kept { OnErr result (room.new ≡ room.old) }
     ensures cause { IfErr result (λ e.
         ReadingCause most (S.state source.old) (S.state source.new) e.code e.place) }
-    ensures told { (S.state source.old).faults < (S.state source.new).faults
+    ensures read_error { (S.state source.old).faults < (S.state source.new).faults
         → IsErrOf result reading_failed }
     ensures taken { TakesOneBeyond most (S.state source.old) (S.state source.new) }
 {
@@ -198,10 +198,10 @@ pub fn from_reader<'a, S: Source, T: Deserialize<'a> + Drop>(
     ensures place { IfOk result (T.placed IsPackedAtRoot) }
     ensures err { IfErr result (λ e.
         SourceFails (S.state source.old) (S.state source.new) T.from_tree e.code e.place) }
-    ensures told { (S.state source.old).faults < (S.state source.new).faults
+    ensures read_error { (S.state source.old).faults < (S.state source.new).faults
         → IsErrOf result reading_failed }
     ensures taken { TakesOneBeyond most (S.state source.old) (S.state source.new) }
 {
-    fill(alloc, source, room)?;
+    read_source(alloc, source, room)?;
     from_slice(alloc, room.as_slice())
 }

@@ -9,8 +9,8 @@ ghost use Rattle.json_data.specs.Reading.{one_character, read_character};
 use crate::deserialize::DeserializeFrom;
 use crate::keys::FromKey;
 use crate::readers::next_text;
-use json_text::{ErrorCode, Result};
-use json_tokens::{Lent, Piece, TokenKind, Tokens, refusal};
+use json_io::{ErrorCode, Result};
+use json_tokens::{InputStr, Piece, TokenKind, Tokens, error_without_place};
 use std::alloc::Global;
 
 // The character of a text that has one alone.
@@ -26,7 +26,7 @@ pub(crate) fn only_char(text: &str) -> Option<char>
     }
 }
 
-impl<S: Lent> DeserializeFrom<S> for char {
+impl<S: InputStr> DeserializeFrom<S> for char {
     ghost datum = { λ c. text_datum (encode_utf8 c) };
 
     ghost from_tree = { read_character };
@@ -34,18 +34,18 @@ impl<S: Lent> DeserializeFrom<S> for char {
     fn deserialize<T: Tokens<S>>(alloc: Global, tokens: &mut T) -> Result<char> {
         if tokens.peek()? != TokenKind::Text {
             tokens.skip()?;
-            return Err(refusal(ErrorCode::TypeUnmatched));
+            return Err(error_without_place(ErrorCode::TypeUnmatched));
         }
         let piece = next_text(tokens)?;
         let text = piece.copy(alloc)?;
         match only_char(text.as_str()) {
             Some(c) => Ok(c),
-            None => Err(refusal(ErrorCode::TypeUnmatched)),
+            None => Err(error_without_place(ErrorCode::TypeUnmatched)),
         }
     }
 }
 
-impl<S: Lent> FromKey<S> for char {
+impl<S: InputStr> FromKey<S> for char {
     ghost key_datum = { λ c. text_datum (encode_utf8 c) };
 
     ghost from_text = { one_character };
@@ -59,7 +59,7 @@ impl<S: Lent> FromKey<S> for char {
         let text = piece.copy(alloc)?;
         match only_char(text.as_str()) {
             Some(c) => Ok(c),
-            None => Err(refusal(ErrorCode::TypeUnmatched)),
+            None => Err(error_without_place(ErrorCode::TypeUnmatched)),
         }
     }
 }

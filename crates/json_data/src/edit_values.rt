@@ -9,13 +9,13 @@ ghost use Rattle.json_data.specs.Spelled.{Unspelled};
 
 use crate::deserialize::DeserializeFrom;
 use crate::path_values::{read_path, read_step, unspelled};
-use json_text::Result;
-use json_tokens::{Lent, Tokens};
+use json_io::Result;
+use json_tokens::{InputStr, Tokens};
 use json_value::{ArrayView, Edit, Path, Text, View};
 use std::alloc::Global;
 
 // The text of the first element; none where there is no such text.
-fn name_of<'a>(array: ArrayView<'a>) -> Option<&'a str>
+fn edit_name<'a>(array: ArrayView<'a>) -> Option<&'a str>
     ensures { option_map (λ s. s.now) result
         ≡ option_and_then string_of (slice_get (elements_seen array.entry) 0) }
 {
@@ -26,7 +26,7 @@ fn name_of<'a>(array: ArrayView<'a>) -> Option<&'a str>
 }
 
 // The two elements after the first; none where there are fewer or more.
-fn two_behind<'a>(array: ArrayView<'a>) -> Option<(View<'a>, View<'a>)>
+fn two_after_name<'a>(array: ArrayView<'a>) -> Option<(View<'a>, View<'a>)>
     ensures { MatchOption result (length (drop 1 (elements_seen array.entry)) ≢ 2)
         (λ p. drop 1 (elements_seen array.entry) ≡ seen p.0 ∷ seen p.1 ∷ []) }
 {
@@ -39,7 +39,7 @@ fn two_behind<'a>(array: ArrayView<'a>) -> Option<(View<'a>, View<'a>)>
 }
 
 // The three elements after the first; none where there are fewer or more.
-fn three_behind<'a>(array: ArrayView<'a>) -> Option<(View<'a>, View<'a>, View<'a>)>
+fn three_after_name<'a>(array: ArrayView<'a>) -> Option<(View<'a>, View<'a>, View<'a>)>
     ensures { MatchOption result (length (drop 1 (elements_seen array.entry)) ≢ 3)
         (λ p. drop 1 (elements_seen array.entry) ≡ seen p.0 ∷ seen p.1 ∷ seen p.2 ∷ []) }
 {
@@ -59,7 +59,7 @@ fn read_set(alloc: Global, array: ArrayView<'_>) -> Result<Edit>
     ensures err { IfErr result
         (Unspelled (edit_named (codes "set") (drop 1 (elements_seen array.entry)))) }
 {
-    let Some((path, value)) = two_behind(array) else {
+    let Some((path, value)) = two_after_name(array) else {
         return Err(unspelled());
     };
     let path = read_path(alloc, path)?;
@@ -74,7 +74,7 @@ fn read_push(alloc: Global, array: ArrayView<'_>) -> Result<Edit>
     ensures err { IfErr result
         (Unspelled (edit_named (codes "push") (drop 1 (elements_seen array.entry)))) }
 {
-    let Some((path, value)) = two_behind(array) else {
+    let Some((path, value)) = two_after_name(array) else {
         return Err(unspelled());
     };
     let path = read_path(alloc, path)?;
@@ -89,7 +89,7 @@ fn read_remove(alloc: Global, array: ArrayView<'_>) -> Result<Edit>
     ensures err { IfErr result
         (Unspelled (edit_named (codes "remove") (drop 1 (elements_seen array.entry)))) }
 {
-    let Some((path, step)) = two_behind(array) else {
+    let Some((path, step)) = two_after_name(array) else {
         return Err(unspelled());
     };
     let path = read_path(alloc, path)?;
@@ -104,7 +104,7 @@ fn read_insert(alloc: Global, array: ArrayView<'_>) -> Result<Edit>
     ensures err { IfErr result
         (Unspelled (edit_named (codes "insert") (drop 1 (elements_seen array.entry)))) }
 {
-    let Some((path, key, value)) = three_behind(array) else {
+    let Some((path, key, value)) = three_after_name(array) else {
         return Err(unspelled());
     };
     let Some(key) = key.text() else {
@@ -124,7 +124,7 @@ fn read_edit(alloc: Global, view: View<'_>) -> Result<Edit>
     let Some(array) = view.as_array() else {
         return Err(unspelled());
     };
-    let Some(name) = name_of(array) else {
+    let Some(name) = edit_name(array) else {
         return Err(unspelled());
     };
     match name {
@@ -136,7 +136,7 @@ fn read_edit(alloc: Global, view: View<'_>) -> Result<Edit>
     }
 }
 
-impl<S: Lent> DeserializeFrom<S> for Path {
+impl<S: InputStr> DeserializeFrom<S> for Path {
     ghost datum = { λ p. path_datum (path_steps p) };
 
     ghost from_tree = { spec_read_path };
@@ -147,7 +147,7 @@ impl<S: Lent> DeserializeFrom<S> for Path {
     }
 }
 
-impl<S: Lent> DeserializeFrom<S> for Edit {
+impl<S: InputStr> DeserializeFrom<S> for Edit {
     ghost datum = { λ e. edit_datum (edit_of e) };
 
     ghost from_tree = { spec_read_edit };

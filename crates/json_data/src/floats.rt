@@ -6,11 +6,11 @@ ghost use Rattle.json_number.specs.Numbers.{text_of_number};
 ghost use Rattle.json_data.specs.Floats.{float_datum, read_float};
 
 use crate::deserialize::DeserializeFrom;
-use crate::whole::{next_int, next_raw};
+use crate::integer_ranges::{next_int, next_raw};
 use itoa::Buffer;
+use json_io::{ErrorCode, Result};
 use json_number::{Integer, JsonNumberTrait, Number, f32_of, f64_of};
-use json_text::{ErrorCode, Result};
-use json_tokens::{Lent, TokenKind, Tokens, refusal};
+use json_tokens::{InputStr, TokenKind, Tokens, error_without_place};
 use std::alloc::Global;
 
 /// Returns the double nearest to an integer by value.
@@ -34,7 +34,7 @@ fn integer_f32(n: Number) -> Option<f32>
 /// Reads the double nearest to a number, of two that are equally near the even one. A number whose
 /// nearest double is infinite is refused with `NumberOutOfRange`, and another value with
 /// `TypeUnmatched`.
-impl<S: Lent> DeserializeFrom<S> for f64 {
+impl<S: InputStr> DeserializeFrom<S> for f64 {
     ghost datum = { λ x. float_datum x };
 
     ghost from_tree = { read_float binary64 };
@@ -46,17 +46,17 @@ impl<S: Lent> DeserializeFrom<S> for f64 {
             let n = next_int(tokens)?;
             return match integer_f64(n) {
                 Some(double) => Ok(double),
-                None => Err(refusal(ErrorCode::NumberOutOfRange)),
+                None => Err(error_without_place(ErrorCode::NumberOutOfRange)),
             };
         }
         if kind != TokenKind::Raw {
             tokens.skip()?;
-            return Err(refusal(ErrorCode::TypeUnmatched));
+            return Err(error_without_place(ErrorCode::TypeUnmatched));
         }
         let literal = next_raw(tokens)?;
         match f64_of(literal.as_text()) {
             Some(double) => Ok(double),
-            None => Err(refusal(ErrorCode::NumberOutOfRange)),
+            None => Err(error_without_place(ErrorCode::NumberOutOfRange)),
         }
     }
 }
@@ -64,7 +64,7 @@ impl<S: Lent> DeserializeFrom<S> for f64 {
 /// Reads the `f32` nearest to a number, of two that are equally near the even one. It is rounded
 /// once, and not by way of an `f64`. A number whose nearest `f32` is infinite is refused with
 /// `NumberOutOfRange`, and another value with `TypeUnmatched`.
-impl<S: Lent> DeserializeFrom<S> for f32 {
+impl<S: InputStr> DeserializeFrom<S> for f32 {
     ghost datum = { λ x. float_datum x };
 
     ghost from_tree = { read_float binary32 };
@@ -76,17 +76,17 @@ impl<S: Lent> DeserializeFrom<S> for f32 {
             let n = next_int(tokens)?;
             return match integer_f32(n) {
                 Some(single) => Ok(single),
-                None => Err(refusal(ErrorCode::NumberOutOfRange)),
+                None => Err(error_without_place(ErrorCode::NumberOutOfRange)),
             };
         }
         if kind != TokenKind::Raw {
             tokens.skip()?;
-            return Err(refusal(ErrorCode::TypeUnmatched));
+            return Err(error_without_place(ErrorCode::TypeUnmatched));
         }
         let literal = next_raw(tokens)?;
         match f32_of(literal.as_text()) {
             Some(single) => Ok(single),
-            None => Err(refusal(ErrorCode::NumberOutOfRange)),
+            None => Err(error_without_place(ErrorCode::NumberOutOfRange)),
         }
     }
 }

@@ -1,26 +1,27 @@
 // Integers as keys of maps.
 ghost use Rattle.std.specs.Prelude.{◌≡◌, ◌⊎◌, ◌^◌, ◌≤◌, ℕ, List, pos, true, false, refl, IfOk, IfErr};
 ghost use Rattle.json_model.specs.Datum.{integer_datum};
-ghost use Rattle.json_number.specs.Tests.{is_number as spec_is_number};
+ghost use Rattle.json_number.specs.Tests.{is_number_text as spec_is_number};
 ghost use Rattle.json_io.specs.Errors.{no_memory};
 ghost use Rattle.json_io.specs.declared.error.ErrorCode.TheVariants.{ExpectedNumericKey};
 ghost use Rattle.json_data.specs.Keys.{integer_key, integer_named, unsigned_orders};
 ghost use Rattle.json_tokens.specs.Pieces.{Says};
 ghost use Rattle.json_data.specs.Reader.{KeyReadingFails};
-ghost use Rattle.json_data.specs.Reading.{gives, between, ReturnsBetween};
-ghost use Rattle.json_tokens.specs.Refusals.{refusal as spec_refusal};
+ghost use Rattle.json_data.specs.Reading.{gives, is_between, ReturnsBetween};
+ghost use Rattle.json_tokens.specs.Refusals.{error_without_place as spec_refusal};
 ghost use Rattle.json_number.specs.IntegerLiterals.{IsIntegerLiteral};
 ghost use Rattle.json_number.specs.Integers.{whole_in};
 
+use crate::integer_ranges::{fit_unsigned, integer_in_range};
 use crate::keys::FromKey;
-use crate::whole::{fit, fit_unsigned};
+use json_io::{ErrorCode, Result};
 use json_number::{IntegerLiteral, integer_literal};
-use json_text::{ErrorCode, Result, is_number};
-use json_tokens::{Lent, Piece, refusal};
+use json_text::is_number;
+use json_tokens::{InputStr, Piece, error_without_place};
 use std::alloc::Global;
 
 // The integer of a key that is a number.
-fn key_whole<S: Lent>(alloc: Global, key: Piece<S>) -> Result<IntegerLiteral>
+fn key_whole<S: InputStr>(alloc: Global, key: Piece<S>) -> Result<IntegerLiteral>
     ensures ok { IfOk result (λ w. (s : List ℕ) → Says s key.escaped (S.bytes key.text)
         → (spec_is_number s ≡ true) × IsIntegerLiteral (whole_in s) w) }
     ensures err { IfErr result (λ e. (e ≡ no_memory) ⊎ ((e ≡ spec_refusal ExpectedNumericKey)
@@ -29,38 +30,38 @@ fn key_whole<S: Lent>(alloc: Global, key: Piece<S>) -> Result<IntegerLiteral>
     let text = key.copy(alloc)?;
     let literal = text.as_str();
     if !is_number(literal) {
-        return Err(refusal(ErrorCode::ExpectedNumericKey));
+        return Err(error_without_place(ErrorCode::ExpectedNumericKey));
     }
     Ok(integer_literal(literal))
 }
 
 // The integer of a key, from -low on and below high.
-fn key_between<S: Lent>(alloc: Global, key: Piece<S>, low: u128, high: u128) -> Result<i128>
+fn key_between<S: InputStr>(alloc: Global, key: Piece<S>, low: u128, high: u128) -> Result<i128>
     requires low { low ≤ 2 ^ 127 }
     requires high { high ≤ 2 ^ 127 }
     ensures ok { IfOk result (λ n. (s : List ℕ) → Says s key.escaped (S.bytes key.text)
-        → integer_key (between low high) s ≡ gives (integer_datum n)) }
+        → integer_key (is_between low high) s ≡ gives (integer_datum n)) }
     ensures within { ReturnsBetween low high result }
     ensures err { IfErr result (λ e.
         KeyReadingFails (λ s. Says s key.escaped (S.bytes key.text))
-        (integer_key (between low high)) e) }
+        (integer_key (is_between low high)) e) }
 {
     let whole = match key_whole(alloc, key) {
         Ok(whole) => whole,
         Err(e) => return Err(e),
     };
-    match fit(whole, low, high) {
+    match integer_in_range(whole, low, high) {
         Ok(n) => Ok(n),
         Err(e) => Err(e),
     }
 }
 
-impl<S: Lent> FromKey<S> for i8 {
+impl<S: InputStr> FromKey<S> for i8 {
     ghost key_datum = { λ n. integer_datum n };
 
-    ghost from_text = { integer_key (between (2 ^ 7) (2 ^ 7)) };
+    ghost from_text = { integer_key (is_between (2 ^ 7) (2 ^ 7)) };
 
-    ghost named = { integer_named (between (2 ^ 7) (2 ^ 7)) };
+    ghost named = { integer_named (is_between (2 ^ 7) (2 ^ 7)) };
 
     ghost orders = { λ a b s r h k. refl };
 
@@ -70,12 +71,12 @@ impl<S: Lent> FromKey<S> for i8 {
     }
 }
 
-impl<S: Lent> FromKey<S> for i16 {
+impl<S: InputStr> FromKey<S> for i16 {
     ghost key_datum = { λ n. integer_datum n };
 
-    ghost from_text = { integer_key (between (2 ^ 15) (2 ^ 15)) };
+    ghost from_text = { integer_key (is_between (2 ^ 15) (2 ^ 15)) };
 
-    ghost named = { integer_named (between (2 ^ 15) (2 ^ 15)) };
+    ghost named = { integer_named (is_between (2 ^ 15) (2 ^ 15)) };
 
     ghost orders = { λ a b s r h k. refl };
 
@@ -85,12 +86,12 @@ impl<S: Lent> FromKey<S> for i16 {
     }
 }
 
-impl<S: Lent> FromKey<S> for i32 {
+impl<S: InputStr> FromKey<S> for i32 {
     ghost key_datum = { λ n. integer_datum n };
 
-    ghost from_text = { integer_key (between (2 ^ 31) (2 ^ 31)) };
+    ghost from_text = { integer_key (is_between (2 ^ 31) (2 ^ 31)) };
 
-    ghost named = { integer_named (between (2 ^ 31) (2 ^ 31)) };
+    ghost named = { integer_named (is_between (2 ^ 31) (2 ^ 31)) };
 
     ghost orders = { λ a b s r h k. refl };
 
@@ -100,12 +101,12 @@ impl<S: Lent> FromKey<S> for i32 {
     }
 }
 
-impl<S: Lent> FromKey<S> for i64 {
+impl<S: InputStr> FromKey<S> for i64 {
     ghost key_datum = { λ n. integer_datum n };
 
-    ghost from_text = { integer_key (between (2 ^ 63) (2 ^ 63)) };
+    ghost from_text = { integer_key (is_between (2 ^ 63) (2 ^ 63)) };
 
-    ghost named = { integer_named (between (2 ^ 63) (2 ^ 63)) };
+    ghost named = { integer_named (is_between (2 ^ 63) (2 ^ 63)) };
 
     ghost orders = { λ a b s r h k. refl };
 
@@ -120,12 +121,12 @@ impl<S: Lent> FromKey<S> for i64 {
     }
 }
 
-impl<S: Lent> FromKey<S> for i128 {
+impl<S: InputStr> FromKey<S> for i128 {
     ghost key_datum = { λ n. integer_datum n };
 
-    ghost from_text = { integer_key (between (2 ^ 127) (2 ^ 127)) };
+    ghost from_text = { integer_key (is_between (2 ^ 127) (2 ^ 127)) };
 
-    ghost named = { integer_named (between (2 ^ 127) (2 ^ 127)) };
+    ghost named = { integer_named (is_between (2 ^ 127) (2 ^ 127)) };
 
     ghost orders = { λ a b s r h k. refl };
 
@@ -140,12 +141,12 @@ impl<S: Lent> FromKey<S> for i128 {
     }
 }
 
-impl<S: Lent> FromKey<S> for isize {
+impl<S: InputStr> FromKey<S> for isize {
     ghost key_datum = { λ n. integer_datum n };
 
-    ghost from_text = { integer_key (between (2 ^ 63) (2 ^ 63)) };
+    ghost from_text = { integer_key (is_between (2 ^ 63) (2 ^ 63)) };
 
-    ghost named = { integer_named (between (2 ^ 63) (2 ^ 63)) };
+    ghost named = { integer_named (is_between (2 ^ 63) (2 ^ 63)) };
 
     ghost orders = { λ a b s r h k. refl };
 
@@ -160,12 +161,12 @@ impl<S: Lent> FromKey<S> for isize {
     }
 }
 
-impl<S: Lent> FromKey<S> for u8 {
+impl<S: InputStr> FromKey<S> for u8 {
     ghost key_datum = { λ n. integer_datum (pos n) };
 
-    ghost from_text = { integer_key (between 0 (2 ^ 8)) };
+    ghost from_text = { integer_key (is_between 0 (2 ^ 8)) };
 
-    ghost named = { integer_named (between 0 (2 ^ 8)) };
+    ghost named = { integer_named (is_between 0 (2 ^ 8)) };
 
     ghost orders = { λ a b s r h k. unsigned_orders a b };
 
@@ -175,12 +176,12 @@ impl<S: Lent> FromKey<S> for u8 {
     }
 }
 
-impl<S: Lent> FromKey<S> for u16 {
+impl<S: InputStr> FromKey<S> for u16 {
     ghost key_datum = { λ n. integer_datum (pos n) };
 
-    ghost from_text = { integer_key (between 0 (2 ^ 16)) };
+    ghost from_text = { integer_key (is_between 0 (2 ^ 16)) };
 
-    ghost named = { integer_named (between 0 (2 ^ 16)) };
+    ghost named = { integer_named (is_between 0 (2 ^ 16)) };
 
     ghost orders = { λ a b s r h k. unsigned_orders a b };
 
@@ -190,12 +191,12 @@ impl<S: Lent> FromKey<S> for u16 {
     }
 }
 
-impl<S: Lent> FromKey<S> for u32 {
+impl<S: InputStr> FromKey<S> for u32 {
     ghost key_datum = { λ n. integer_datum (pos n) };
 
-    ghost from_text = { integer_key (between 0 (2 ^ 32)) };
+    ghost from_text = { integer_key (is_between 0 (2 ^ 32)) };
 
-    ghost named = { integer_named (between 0 (2 ^ 32)) };
+    ghost named = { integer_named (is_between 0 (2 ^ 32)) };
 
     ghost orders = { λ a b s r h k. unsigned_orders a b };
 
@@ -205,12 +206,12 @@ impl<S: Lent> FromKey<S> for u32 {
     }
 }
 
-impl<S: Lent> FromKey<S> for u64 {
+impl<S: InputStr> FromKey<S> for u64 {
     ghost key_datum = { λ n. integer_datum (pos n) };
 
-    ghost from_text = { integer_key (between 0 (2 ^ 64)) };
+    ghost from_text = { integer_key (is_between 0 (2 ^ 64)) };
 
-    ghost named = { integer_named (between 0 (2 ^ 64)) };
+    ghost named = { integer_named (is_between 0 (2 ^ 64)) };
 
     ghost orders = { λ a b s r h k. unsigned_orders a b };
 
@@ -220,12 +221,12 @@ impl<S: Lent> FromKey<S> for u64 {
     }
 }
 
-impl<S: Lent> FromKey<S> for usize {
+impl<S: InputStr> FromKey<S> for usize {
     ghost key_datum = { λ n. integer_datum (pos n) };
 
-    ghost from_text = { integer_key (between 0 (2 ^ 64)) };
+    ghost from_text = { integer_key (is_between 0 (2 ^ 64)) };
 
-    ghost named = { integer_named (between 0 (2 ^ 64)) };
+    ghost named = { integer_named (is_between 0 (2 ^ 64)) };
 
     ghost orders = { λ a b s r h k. unsigned_orders a b };
 
@@ -235,12 +236,12 @@ impl<S: Lent> FromKey<S> for usize {
     }
 }
 
-impl<S: Lent> FromKey<S> for u128 {
+impl<S: InputStr> FromKey<S> for u128 {
     ghost key_datum = { λ n. integer_datum (pos n) };
 
-    ghost from_text = { integer_key (between 0 (2 ^ 128)) };
+    ghost from_text = { integer_key (is_between 0 (2 ^ 128)) };
 
-    ghost named = { integer_named (between 0 (2 ^ 128)) };
+    ghost named = { integer_named (is_between 0 (2 ^ 128)) };
 
     ghost orders = { λ a b s r h k. unsigned_orders a b };
 

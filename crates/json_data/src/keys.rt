@@ -9,13 +9,13 @@ ghost use Rattle.json_data.specs.Keys.{text_key, boolean_key, IsNamed, boolean_n
 ghost use Rattle.json_tokens.specs.Pieces.{Says};
 ghost use Rattle.json_data.specs.Reading.{Reading, gives, key_cmp};
 ghost use Rattle.json_data.specs.Reader.{KeyReadingFails};
-ghost use Rattle.json_tokens.specs.Spots.{InObject};
-ghost use Rattle.json_tokens.specs.Stand.{NotWhole, TakesOne, TakesKeyPiece, FailsWithTokens};
+ghost use Rattle.json_tokens.specs.ExpectedTokens.{InObject};
+ghost use Rattle.json_tokens.specs.TokensStates.{NotWhole, TakesOne, TakesKeyPiece, FailsWithTokens};
 
-use crate::brackets::pass;
+use crate::brackets::skip_token;
 use json_grammar::Kind;
-use json_text::{ErrorCode, Result};
-use json_tokens::{Lent, Piece, Token, TokenKind, Tokens, lend, refusal};
+use json_io::{ErrorCode, Result};
+use json_tokens::{InputStr, Piece, Token, TokenKind, Tokens, error_without_place, lend};
 use std::alloc::Global;
 use std::borrow::CowStr;
 
@@ -26,7 +26,7 @@ use std::borrow::CowStr;
 /// assert_eq!(rt; <u16 as FromKey<&str>>::from_key(alloc, &Piece::plain("1815"))?, 1815);
 /// assert!(rt; <u16 as FromKey<&str>>::from_key(alloc, &Piece::plain("born")).is_err());
 /// ```
-pub trait FromKey<S: Lent>: Sized + Ord {
+pub trait FromKey<S: InputStr>: Sized + Ord {
     /// What a key means.
     ghost key_datum: { Self → Datum };
 
@@ -49,7 +49,7 @@ pub trait FromKey<S: Lent>: Sized + Ord {
         → from_text r ≡ gives (key_datum b) → Self.cmp a b ≡ key_cmp (key_datum a) (key_datum b) };
 }
 
-impl<S: Lent> FromKey<S> for String {
+impl<S: InputStr> FromKey<S> for String {
     ghost key_datum = { λ s. text_datum (string_bytes s) };
 
     ghost from_text = { text_key };
@@ -79,7 +79,7 @@ impl<'de> FromKey<&'de str> for CowStr<'de> {
     }
 }
 
-impl<S: Lent> FromKey<S> for bool {
+impl<S: InputStr> FromKey<S> for bool {
     ghost key_datum = { λ b. boolean_datum b };
 
     ghost from_text = { boolean_key };
@@ -97,11 +97,11 @@ impl<S: Lent> FromKey<S> for bool {
         if text.as_str() == "false" {
             return Ok(false);
         }
-        Err(refusal(ErrorCode::TypeUnmatched))
+        Err(error_without_place(ErrorCode::TypeUnmatched))
     }
 }
 
-impl<S: Lent, K: FromKey<S>> FromKey<S> for Option<K> {
+impl<S: InputStr, K: FromKey<S>> FromKey<S> for Option<K> {
     ghost key_datum = { λ o. option_datum K.key_datum o };
 
     ghost from_text = { K.from_text };
@@ -117,12 +117,12 @@ impl<S: Lent, K: FromKey<S>> FromKey<S> for Option<K> {
 
 // Returns the next key.
 #[inline(always)]
-pub(crate) fn next_key<S: Lent, T: Tokens<S>>(tokens: &mut T) -> Result<Piece<S>>
-    requires whole { NotWhole (T.stand tokens.old) }
-    requires told { (T.stand tokens.old).told ≡ Some TokenKind.Key }
+pub(crate) fn next_key<S: InputStr, T: Tokens<S>>(tokens: &mut T) -> Result<Piece<S>>
+    requires whole { NotWhole (T.state tokens.old) }
+    requires peeked { (T.state tokens.old).peeked ≡ Some TokenKind.Key }
     ensures ok { IfOk result (λ p. (s : List ℕ) × Says s p.escaped (S.bytes p.text)
-        × TakesOne T.taken T.stand tokens.old tokens.new (key_token s)) }
-    ensures err { FailsWithTokens (T.stand tokens.old) (T.stand tokens.new) result }
+        × TakesOne T.taken T.state tokens.old tokens.new (key_token s)) }
+    ensures err { FailsWithTokens (T.state tokens.old) (T.state tokens.new) result }
 {
     match tokens.next()? {
         Token::Key(piece) => Ok(piece),
@@ -132,14 +132,14 @@ pub(crate) fn next_key<S: Lent, T: Tokens<S>>(tokens: &mut T) -> Result<Piece<S>
 
 /// Returns the next name in an object, or `None` if the object ends, whose end is taken.
 #[inline(always)]
-pub(crate) fn next_name<S: Lent, T: Tokens<S>>(tokens: &mut T) -> Result<Option<Piece<S>>>
-    requires { InObject (T.stand tokens.old).spot }
+pub(crate) fn next_name<S: InputStr, T: Tokens<S>>(tokens: &mut T) -> Result<Option<Piece<S>>>
+    requires { InObject (T.state tokens.old).expected }
     ensures name { IfOk result (λ r. IfSome r (λ p.
-        TakesKeyPiece T.taken T.stand
+        TakesKeyPiece T.taken T.state
         (λ s. Says s p.escaped (S.bytes p.text)) tokens.old tokens.new)) }
     ensures end { IfOk result (λ r. r ≡ None
-        → TakesOne T.taken T.stand tokens.old tokens.new (end_token object)) }
-    ensures err { FailsWithTokens (T.stand tokens.old) (T.stand tokens.new) result }
+        → TakesOne T.taken T.state tokens.old tokens.new (end_token object)) }
+    ensures err { FailsWithTokens (T.state tokens.old) (T.state tokens.new) result }
 {
     if let Some(key) = tokens.key() {
         return Ok(Some(key));
@@ -148,7 +148,7 @@ pub(crate) fn next_name<S: Lent, T: Tokens<S>>(tokens: &mut T) -> Result<Option<
         return Ok(None);
     }
     if tokens.peek()? == TokenKind::EndObject {
-        pass(tokens)?;
+        skip_token(tokens)?;
         return Ok(None);
     }
     let key = next_key(tokens)?;

@@ -6,15 +6,15 @@ ghost use Rattle.json_number.specs.Literals.{raw_literal};
 ghost use Rattle.json_data.specs.Floats.{SameFloat, ReadsNearestFloat, ReadsIntegerAsDouble, IsReadAs};
 ghost use Rattle.json_data.specs.Laws.{SameDatum, SamePath, SameEdit};
 
+use json_io::Result;
 use json_number::RawNumber;
-use json_text::Result;
 pub use json_tokens::laws::{
     one_text_row, one_value_row, text_row_begins, text_row_exists, value_row_begins,
 };
 use std::alloc::Global;
 
 /// Trees with the same datum are the same tree.
-pub fn same_value()
+pub fn same_tree_of_datum()
     ensures { SameDatum }
 {}
 

@@ -15,6 +15,7 @@ mod deserialize;
 mod edit_values;
 mod floats;
 mod integer_keys;
+mod integer_ranges;
 mod integers;
 mod keys;
 pub mod laws;
@@ -25,15 +26,14 @@ mod raws;
 mod readers;
 mod value_calls;
 mod value_readers;
-mod whole;
 
 pub use calls::{from_reader, from_slice, from_slice_unchecked, from_slice_with, from_str};
 pub use deserialize::{Deserialize, DeserializeFrom};
 pub use json_tokens::{
-    Lent, Piece, TextTokens, Token, TokenKind, TokenOf, Tokens, ValueTokens, is_refusal, lend,
-    refusal,
+    InputStr, Piece, TextTokens, Token, TokenKind, TokenOf, Tokens, ValueTokens,
+    error_without_place, is_refusal, lend,
 };
 pub use keys::FromKey;
-pub use members::{Members, find_members, read_members};
+pub use members::{Members, read_members, try_read_members};
 pub use readers::{IgnoredAny, leave_after};
 pub use value_calls::from_value;

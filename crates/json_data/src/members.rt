@@ -7,24 +7,24 @@ ghost use Rattle.json_data.specs.Members.{read_members as spec_read_members};
 ghost use Rattle.json_tokens.specs.Pieces.{Says};
 ghost use Rattle.json_data.specs.Reader.{ReadsTree, ReadsNonNull, Misses, StopsReading};
 ghost use Rattle.json_data.specs.Reading.{Reading, gives};
-ghost use Rattle.json_tokens.specs.Spots.{InObject};
-ghost use Rattle.json_tokens.specs.Stand.{NotWhole, WantsValue, TakesOne};
+ghost use Rattle.json_tokens.specs.ExpectedTokens.{InObject};
+ghost use Rattle.json_tokens.specs.TokensStates.{NotWhole, WantsValue, TakesOne};
 
-use crate::brackets::open;
+use crate::brackets::open_container;
 use crate::keys::next_name;
 use crate::readers::leave_after;
 use json_grammar::Kind;
-use json_text::Result;
-use json_tokens::{Lent, Piece, Tokens};
+use json_io::Result;
+use json_tokens::{InputStr, Piece, Tokens};
 use std::alloc::Global;
 
 /// What is read so far of the members of an object.
 ///
 /// ```
-/// use json_data::{Lent, Members, TextTokens, Tokens, read_members};
+/// use json_data::{InputStr, Members, TextTokens, Tokens, read_members};
 /// #[derive(Drop)]
 /// struct Count(u64);
-/// impl<S: Lent> Members<S> for Count {
+/// impl<S: InputStr> Members<S> for Count {
 ///     ghost use Rattle.json_model.specs.Datum.{null_datum};
 ///     ghost use Rattle.json_data.specs.Reading.{gives};
 ///     ghost so_far = { λ _. null_datum };
@@ -44,7 +44,7 @@ use std::alloc::Global;
 /// read_members(alloc, &mut count, &mut tokens)?;
 /// assert_eq!(rt; count.0, 2);
 /// ```
-pub trait Members<S: Lent>: Sized {
+pub trait Members<S: InputStr>: Sized {
     /// What it means.
     ghost so_far: { Self → Datum };
 
@@ -54,29 +54,29 @@ pub trait Members<S: Lent>: Sized {
     /// Takes the value of the member of that name: it is read, or skipped where the name is
     /// unknown. If the value is refused, the whole of it was taken.
     fn member<T: Tokens<S>>(&mut self, alloc: Global, name: &str, tokens: &mut T) -> Result<()>
-        requires { WantsValue (T.stand tokens.old) }
-        ensures ok { OnOk result (ReadsTree T.taken T.stand (step (so_far self.old) name.now)
+        requires { WantsValue (T.state tokens.old) }
+        ensures ok { OnOk result (ReadsTree T.taken T.state (step (so_far self.old) name.now)
             tokens.old tokens.new (gives (so_far self.new))) }
         ensures err { IfErr result (λ e.
-            StopsReading T.taken T.stand
+            StopsReading T.taken T.state
             (step (so_far self.old) name.now) tokens.old tokens.new e) };
 }
 
 // Takes the value of the member whose name a piece says.
 #[inline(always)]
-fn read_member<S: Lent, M: Members<S>, T: Tokens<S>>(
+fn read_member<S: InputStr, M: Members<S>, T: Tokens<S>>(
     alloc: Global,
     members: &mut M,
     key: Piece<S>,
     tokens: &mut T,
 ) -> Result<()>
-    requires { WantsValue (T.stand tokens.old) }
+    requires { WantsValue (T.state tokens.old) }
     ensures ok { (s : List ℕ) → Says s key.escaped (S.bytes key.text)
-        → OnOk result (ReadsTree T.taken T.stand (M.step (M.so_far members.old) s)
+        → OnOk result (ReadsTree T.taken T.state (M.step (M.so_far members.old) s)
         tokens.old tokens.new (gives (M.so_far members.new))) }
     ensures err { (s : List ℕ) → Says s key.escaped (S.bytes key.text)
         → IfErr result (λ e.
-        StopsReading T.taken T.stand (M.step (M.so_far members.old) s) tokens.old tokens.new e) }
+        StopsReading T.taken T.state (M.step (M.so_far members.old) s) tokens.old tokens.new e) }
 {
     let name = key.to_text(alloc)?;
     members.member(alloc, name.as_str(), tokens)
@@ -84,18 +84,18 @@ fn read_member<S: Lent, M: Members<S>, T: Tokens<S>>(
 
 // Takes what is left of an object whose beginning was taken, each member in its order.
 #[inline(never)]
-fn read_rest<S: Lent, M: Members<S>, T: Tokens<S>>(
+fn read_rest<S: InputStr, M: Members<S>, T: Tokens<S>>(
     alloc: Global,
     members: &mut M,
     tokens: &mut T,
 ) -> Result<()>
-    requires { InObject (T.stand tokens.old).spot }
-    ensures ok { (a : T) → TakesOne T.taken T.stand a tokens.old (begin_token object)
-        → OnOk result (ReadsNonNull T.taken T.stand
+    requires { InObject (T.state tokens.old).expected }
+    ensures ok { (a : T) → TakesOne T.taken T.state a tokens.old (begin_token object)
+        → OnOk result (ReadsNonNull T.taken T.state
         (spec_read_members M.step (M.so_far members.old))
         a tokens.new (gives (M.so_far members.new))) }
-    ensures err { (a : T) → TakesOne T.taken T.stand a tokens.old (begin_token object)
-        → IfErr result (λ e. Misses T.taken T.stand
+    ensures err { (a : T) → TakesOne T.taken T.state a tokens.old (begin_token object)
+        → IfErr result (λ e. Misses T.taken T.state
         (spec_read_members M.step (M.so_far members.old)) a tokens.new e) }
 {
     'each: loop {
@@ -114,37 +114,37 @@ fn read_rest<S: Lent, M: Members<S>, T: Tokens<S>>(
 /// object. If a member is refused, the rest of the object is read first. Fails with `NoMemory` if a
 /// name that has an escape cannot be copied.
 #[inline(always)]
-pub fn read_members<S: Lent, M: Members<S>, T: Tokens<S>>(
+pub fn read_members<S: InputStr, M: Members<S>, T: Tokens<S>>(
     alloc: Global,
     members: &mut M,
     tokens: &mut T,
 ) -> Result<()>
-    requires { WantsValue (T.stand tokens.old) }
+    requires { WantsValue (T.state tokens.old) }
     ensures ok { OnOk result
-        (ReadsTree T.taken T.stand (spec_read_members M.step (M.so_far members.old))
+        (ReadsTree T.taken T.state (spec_read_members M.step (M.so_far members.old))
         tokens.old tokens.new (gives (M.so_far members.new))) }
-    ensures err { IfErr result (λ e. StopsReading T.taken T.stand
+    ensures err { IfErr result (λ e. StopsReading T.taken T.state
         (spec_read_members M.step (M.so_far members.old)) tokens.old tokens.new e) }
 {
-    open(tokens, Kind::Object)?;
+    open_container(tokens, Kind::Object)?;
     read_rest(alloc, members, tokens)
 }
 
 /// Takes an object as `read_members` does if its beginning is found at once, and returns whether it
 /// was. Otherwise nothing is taken, and the members are as they were. Fails as `read_members` does.
 #[inline(always)]
-pub fn find_members<S: Lent, M: Members<S>, T: Tokens<S>>(
+pub fn try_read_members<S: InputStr, M: Members<S>, T: Tokens<S>>(
     alloc: Global,
     members: &mut M,
     tokens: &mut T,
 ) -> Result<bool>
-    requires { NotWhole (T.stand tokens.old) }
+    requires { NotWhole (T.state tokens.old) }
     ensures none { IfOk result (λ b. b ≡ false → tokens.new ≡ tokens.old) }
     ensures kept { IfOk result (λ b. b ≡ false → members.new ≡ members.old) }
     ensures ok { IfOk result (λ b. b ≡ true
-        → ReadsNonNull T.taken T.stand (spec_read_members M.step (M.so_far members.old))
+        → ReadsNonNull T.taken T.state (spec_read_members M.step (M.so_far members.old))
         tokens.old tokens.new (gives (M.so_far members.new))) }
-    ensures err { IfErr result (λ e. Misses T.taken T.stand
+    ensures err { IfErr result (λ e. Misses T.taken T.state
         (spec_read_members M.step (M.so_far members.old)) tokens.old tokens.new e) }
 {
     if !tokens.begins(Kind::Object) {

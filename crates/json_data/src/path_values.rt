@@ -5,12 +5,12 @@ ghost use Rattle.json_io.specs.declared.error.ErrorCode.TheVariants as ErrorCode
 ghost use Rattle.json_value.specs.Edits.{step_of, path_steps};
 ghost use Rattle.json_value.specs.EditTrees.{each_in, index_of, step_in, path_in};
 ghost use Rattle.json_value.specs.Seen.{seen, elements_seen};
-ghost use Rattle.json_tokens.specs.Refusals.{refusal as spec_refusal};
+ghost use Rattle.json_tokens.specs.Refusals.{error_without_place as spec_refusal};
 ghost use Rattle.json_data.specs.Spelled.{Unspelled};
 
+use json_io::{Error, ErrorCode, Result};
 use json_number::{JsonNumberTrait, Number};
-use json_text::{Error, ErrorCode, Result};
-use json_tokens::refusal;
+use json_tokens::error_without_place;
 use json_value::{ArrayView, Path, PointerNode, Text, View};
 use std::alloc::Global;
 
@@ -18,7 +18,7 @@ use std::alloc::Global;
 pub(crate) fn unspelled() -> Error
     ensures { result ≡ spec_refusal ErrorCode.TypeUnmatched }
 {
-    refusal(ErrorCode::TypeUnmatched)
+    error_without_place(ErrorCode::TypeUnmatched)
 }
 
 // The index that an integer is; none below 0, and from 2^32 on.

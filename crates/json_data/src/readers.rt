@@ -8,30 +8,32 @@ ghost use Rattle.json_tokens.specs.Pieces.{Says};
 ghost use Rattle.json_model.specs.Datum.{null_datum, boolean_datum, text_datum, list_datum, list_data, option_datum};
 ghost use Rattle.json_data.specs.Reading.{gives, read_boolean, read_unit, read_text, read_option, read_list, read_pair, read_any};
 ghost use Rattle.json_tokens.specs.Refusals.{is_refusal as spec_is_refusal};
-ghost use Rattle.json_tokens.specs.Spots.{IsOpen, InArray};
-ghost use Rattle.json_tokens.specs.Stand.{NotWhole, WantsValue, TakesOne, TakesTree, TakesText, Leaves, TokensFail, FailsWithTokens};
+ghost use Rattle.json_tokens.specs.ExpectedTokens.{IsOpen, InArray};
+ghost use Rattle.json_tokens.specs.TokensStates.{NotWhole, WantsValue, TakesOne, TakesTree, TakesText, Leaves, TokensFail, FailsWithTokens};
 ghost use Rattle.json_data.specs.Reader.{ReadsTree, ReadsNonNull, Misses, StopsReading};
 
-use crate::brackets::{open, pass};
+use crate::brackets::{open_container, skip_token};
 use crate::deserialize::DeserializeFrom;
 use json_grammar::Kind;
-use json_text::{Error, ErrorCode, Result};
-use json_tokens::{Lent, Piece, Token, TokenKind, Tokens, is_refusal, lend, refusal};
+use json_io::{Error, ErrorCode, Result};
+use json_tokens::{
+    InputStr, Piece, Token, TokenKind, Tokens, error_without_place, is_refusal, lend,
+};
 use std::alloc::Global;
 use std::borrow::CowStr;
 
 // What `bool` does where no boolean is found at once.
 #[inline(never)]
-fn boolean_by_kind<S: Lent, T: Tokens<S>>(tokens: &mut T) -> Result<bool>
-    requires { WantsValue (T.stand tokens.old) }
-    ensures ok { IfOk result (λ b. ReadsTree T.taken T.stand read_boolean
+fn boolean_by_kind<S: InputStr, T: Tokens<S>>(tokens: &mut T) -> Result<bool>
+    requires { WantsValue (T.state tokens.old) }
+    ensures ok { IfOk result (λ b. ReadsTree T.taken T.state read_boolean
         tokens.old tokens.new (gives (boolean_datum b))) }
     ensures err { IfErr result
-        (λ e. StopsReading T.taken T.stand read_boolean tokens.old tokens.new e) }
+        (λ e. StopsReading T.taken T.state read_boolean tokens.old tokens.new e) }
 {
     if tokens.peek()? != TokenKind::Bool {
         tokens.skip()?;
-        return Err(refusal(ErrorCode::TypeUnmatched));
+        return Err(error_without_place(ErrorCode::TypeUnmatched));
     }
     match tokens.next()? {
         Token::Bool(b) => Ok(b),
@@ -39,7 +41,7 @@ fn boolean_by_kind<S: Lent, T: Tokens<S>>(tokens: &mut T) -> Result<bool>
     }
 }
 
-impl<S: Lent> DeserializeFrom<S> for bool {
+impl<S: InputStr> DeserializeFrom<S> for bool {
     ghost datum = { λ b. boolean_datum b };
 
     ghost from_tree = { read_boolean };
@@ -54,7 +56,7 @@ impl<S: Lent> DeserializeFrom<S> for bool {
     }
 
     #[inline(always)]
-    fn found<T: Tokens<S>>(alloc: Global, tokens: &mut T) -> Result<Option<bool>> {
+    fn try_deserialize<T: Tokens<S>>(alloc: Global, tokens: &mut T) -> Result<Option<bool>> {
         let _ = alloc;
         match tokens.boolean() {
             Some(b) => Ok(Some(b)),
@@ -65,12 +67,12 @@ impl<S: Lent> DeserializeFrom<S> for bool {
 
 // Returns the next string.
 #[inline(always)]
-pub(crate) fn next_text<S: Lent, T: Tokens<S>>(tokens: &mut T) -> Result<Piece<S>>
-    requires whole { NotWhole (T.stand tokens.old) }
-    requires told { (T.stand tokens.old).told ≡ Some TokenKind.Text }
+pub(crate) fn next_text<S: InputStr, T: Tokens<S>>(tokens: &mut T) -> Result<Piece<S>>
+    requires whole { NotWhole (T.state tokens.old) }
+    requires peeked { (T.state tokens.old).peeked ≡ Some TokenKind.Text }
     ensures ok { IfOk result (λ p. (s : List ℕ) × Says s p.escaped (S.bytes p.text)
-        × TakesTree T.taken T.stand tokens.old tokens.new (text s)) }
-    ensures err { FailsWithTokens (T.stand tokens.old) (T.stand tokens.new) result }
+        × TakesTree T.taken T.state tokens.old tokens.new (text s)) }
+    ensures err { FailsWithTokens (T.state tokens.old) (T.state tokens.new) result }
 {
     match tokens.next()? {
         Token::Text(piece) => Ok(piece),
@@ -80,28 +82,28 @@ pub(crate) fn next_text<S: Lent, T: Tokens<S>>(tokens: &mut T) -> Result<Piece<S
 
 // What `expect_text` does where the text is not found at once.
 #[inline(never)]
-fn text_by_kind<S: Lent, T: Tokens<S>>(tokens: &mut T) -> Result<Piece<S>>
-    requires { WantsValue (T.stand tokens.old) }
+fn text_by_kind<S: InputStr, T: Tokens<S>>(tokens: &mut T) -> Result<Piece<S>>
+    requires { WantsValue (T.state tokens.old) }
     ensures ok { IfOk result (λ p.
-        TakesText T.taken T.stand (λ s. Says s p.escaped (S.bytes p.text)) tokens.old tokens.new) }
+        TakesText T.taken T.state (λ s. Says s p.escaped (S.bytes p.text)) tokens.old tokens.new) }
     ensures err { IfErr result
-        (λ e. StopsReading T.taken T.stand read_text tokens.old tokens.new e) }
+        (λ e. StopsReading T.taken T.state read_text tokens.old tokens.new e) }
 {
     if tokens.peek()? != TokenKind::Text {
         tokens.skip()?;
-        return Err(refusal(ErrorCode::TypeUnmatched));
+        return Err(error_without_place(ErrorCode::TypeUnmatched));
     }
     next_text(tokens)
 }
 
 // Returns the next string. Fails with `TypeUnmatched` at another value.
 #[inline(always)]
-pub(crate) fn expect_text<S: Lent, T: Tokens<S>>(tokens: &mut T) -> Result<Piece<S>>
-    requires { WantsValue (T.stand tokens.old) }
+pub(crate) fn expect_text<S: InputStr, T: Tokens<S>>(tokens: &mut T) -> Result<Piece<S>>
+    requires { WantsValue (T.state tokens.old) }
     ensures ok { IfOk result (λ p.
-        TakesText T.taken T.stand (λ s. Says s p.escaped (S.bytes p.text)) tokens.old tokens.new) }
+        TakesText T.taken T.state (λ s. Says s p.escaped (S.bytes p.text)) tokens.old tokens.new) }
     ensures err { IfErr result
-        (λ e. StopsReading T.taken T.stand read_text tokens.old tokens.new e) }
+        (λ e. StopsReading T.taken T.state read_text tokens.old tokens.new e) }
 {
     if let Some(piece) = tokens.text() {
         return Ok(piece);
@@ -109,7 +111,7 @@ pub(crate) fn expect_text<S: Lent, T: Tokens<S>>(tokens: &mut T) -> Result<Piece
     text_by_kind(tokens)
 }
 
-impl<S: Lent> DeserializeFrom<S> for String {
+impl<S: InputStr> DeserializeFrom<S> for String {
     ghost datum = { λ s. text_datum (string_bytes s) };
 
     ghost from_tree = { read_text };
@@ -120,7 +122,7 @@ impl<S: Lent> DeserializeFrom<S> for String {
     }
 
     #[inline(always)]
-    fn found<T: Tokens<S>>(alloc: Global, tokens: &mut T) -> Result<Option<String>> {
+    fn try_deserialize<T: Tokens<S>>(alloc: Global, tokens: &mut T) -> Result<Option<String>> {
         match tokens.text() {
             Some(piece) => Ok(Some(piece.copy(alloc)?)),
             None => Ok(None),
@@ -141,15 +143,15 @@ impl<'de> DeserializeFrom<&'de str> for CowStr<'de> {
 
 // What `Option` does where no value is found at once.
 #[inline(always)]
-fn option_by_kind<S: Lent, V: DeserializeFrom<S>, T: Tokens<S>>(
+fn option_by_kind<S: InputStr, V: DeserializeFrom<S>, T: Tokens<S>>(
     alloc: Global,
     tokens: &mut T,
 ) -> Result<Option<V>>
-    requires { WantsValue (T.stand tokens.old) }
-    ensures ok { IfOk result (λ o. ReadsTree T.taken T.stand (read_option V.from_tree)
+    requires { WantsValue (T.state tokens.old) }
+    ensures ok { IfOk result (λ o. ReadsTree T.taken T.state (read_option V.from_tree)
         tokens.old tokens.new (gives (option_datum V.datum o))) }
     ensures err { IfErr result (λ e.
-        StopsReading T.taken T.stand (read_option V.from_tree) tokens.old tokens.new e) }
+        StopsReading T.taken T.state (read_option V.from_tree) tokens.old tokens.new e) }
 {
     if tokens.null() {
         return Ok(None);
@@ -161,22 +163,22 @@ fn option_by_kind<S: Lent, V: DeserializeFrom<S>, T: Tokens<S>>(
     Ok(Some(V::deserialize(alloc, tokens)?))
 }
 
-impl<S: Lent, V: DeserializeFrom<S>> DeserializeFrom<S> for Option<V> {
+impl<S: InputStr, V: DeserializeFrom<S>> DeserializeFrom<S> for Option<V> {
     ghost datum = { λ o. option_datum V.datum o };
 
     ghost from_tree = { read_option V.from_tree };
 
     #[inline]
     fn deserialize<T: Tokens<S>>(alloc: Global, tokens: &mut T) -> Result<Option<V>> {
-        if let Some(found) = V::found(alloc, tokens)? {
+        if let Some(found) = V::try_deserialize(alloc, tokens)? {
             return Ok(Some(found));
         }
         option_by_kind(alloc, tokens)
     }
 
     #[inline(always)]
-    fn found<T: Tokens<S>>(alloc: Global, tokens: &mut T) -> Result<Option<Option<V>>> {
-        match V::found(alloc, tokens) {
+    fn try_deserialize<T: Tokens<S>>(alloc: Global, tokens: &mut T) -> Result<Option<Option<V>>> {
+        match V::try_deserialize(alloc, tokens) {
             Ok(Some(found)) => Ok(Some(Some(found))),
             Ok(None) => Ok(None),
             Err(e) => Err(e),
@@ -184,7 +186,7 @@ impl<S: Lent, V: DeserializeFrom<S>> DeserializeFrom<S> for Option<V> {
     }
 
     #[inline(always)]
-    fn found_null<T: Tokens<S>>(tokens: &mut T) -> Option<Option<V>> {
+    fn try_null<T: Tokens<S>>(tokens: &mut T) -> Option<Option<V>> {
         if tokens.null() {
             return Some(None);
         }
@@ -192,7 +194,7 @@ impl<S: Lent, V: DeserializeFrom<S>> DeserializeFrom<S> for Option<V> {
     }
 }
 
-impl<S: Lent> DeserializeFrom<S> for () {
+impl<S: InputStr> DeserializeFrom<S> for () {
     ghost datum = { λ _. null_datum };
 
     ghost from_tree = { read_unit };
@@ -202,7 +204,7 @@ impl<S: Lent> DeserializeFrom<S> for () {
         let told = tokens.peek()?;
         tokens.skip()?;
         if told != TokenKind::Null {
-            return Err(refusal(ErrorCode::TypeUnmatched));
+            return Err(error_without_place(ErrorCode::TypeUnmatched));
         }
         Ok(())
     }
@@ -218,7 +220,7 @@ impl<S: Lent> DeserializeFrom<S> for () {
 #[derive(Clone, Copy, PartialEq, Eq, Debug)]
 pub struct IgnoredAny;
 
-impl<S: Lent> DeserializeFrom<S> for IgnoredAny {
+impl<S: InputStr> DeserializeFrom<S> for IgnoredAny {
     ghost datum = { λ _. null_datum };
 
     ghost from_tree = { read_any };
@@ -235,11 +237,11 @@ impl<S: Lent> DeserializeFrom<S> for IgnoredAny {
 /// where it fails.
 #[cold]
 #[inline(never)]
-pub fn leave_after<S: Lent, T: Tokens<S>>(tokens: &mut T, e: Error) -> Error
-    requires { spec_is_refusal e.code ≡ true → IsOpen (T.stand tokens.old).spot }
+pub fn leave_after<S: InputStr, T: Tokens<S>>(tokens: &mut T, e: Error) -> Error
+    requires { spec_is_refusal e.code ≡ true → IsOpen (T.state tokens.old).expected }
     ensures left { spec_is_refusal e.code ≡ true
-        → ((result ≡ e) × Leaves T.taken T.stand tokens.old tokens.new)
-        ⊎ TokensFail (T.stand tokens.old) (T.stand tokens.new) result }
+        → ((result ≡ e) × Leaves T.taken T.state tokens.old tokens.new)
+        ⊎ TokensFail (T.state tokens.old) (T.state tokens.new) result }
     ensures as_was { spec_is_refusal e.code ≡ false → (result ≡ e) × (tokens.new ≡ tokens.old) }
 {
     if is_refusal(e.code) {
@@ -254,26 +256,26 @@ pub fn leave_after<S: Lent, T: Tokens<S>>(tokens: &mut T, e: Error) -> Error
 
 /// What `next_element` does where no element is found at once.
 #[inline(always)]
-fn element_by_kind<S: Lent, V: DeserializeFrom<S>, T: Tokens<S>>(
+fn element_by_kind<S: InputStr, V: DeserializeFrom<S>, T: Tokens<S>>(
     alloc: Global,
     tokens: &mut T,
 ) -> Result<Option<V>>
-    requires { InArray (T.stand tokens.old).spot }
+    requires { InArray (T.state tokens.old).expected }
     ensures element { IfOk result (λ r. IfSome r (λ v.
-        ReadsTree T.taken T.stand V.from_tree tokens.old tokens.new (gives (V.datum v)))) }
+        ReadsTree T.taken T.state V.from_tree tokens.old tokens.new (gives (V.datum v)))) }
     ensures end { IfOk result (λ r. r ≡ None
-        → TakesOne T.taken T.stand tokens.old tokens.new (end_token array)) }
+        → TakesOne T.taken T.state tokens.old tokens.new (end_token array)) }
     ensures err { IfErr result (λ e.
-        StopsReading T.taken T.stand V.from_tree tokens.old tokens.new e) }
+        StopsReading T.taken T.state V.from_tree tokens.old tokens.new e) }
 {
-    if let Some(element) = V::found_null(tokens) {
+    if let Some(element) = V::try_null(tokens) {
         return Ok(Some(element));
     }
     if tokens.ends(Kind::Array) {
         return Ok(None);
     }
     if tokens.peek()? == TokenKind::EndArray {
-        pass(tokens)?;
+        skip_token(tokens)?;
         return Ok(None);
     }
     let element = V::deserialize(alloc, tokens)?;
@@ -282,19 +284,19 @@ fn element_by_kind<S: Lent, V: DeserializeFrom<S>, T: Tokens<S>>(
 
 /// Reads the next element of a list, or returns `None` if the list ends, whose end is taken.
 #[inline(always)]
-fn next_element<S: Lent, V: DeserializeFrom<S>, T: Tokens<S>>(
+fn next_element<S: InputStr, V: DeserializeFrom<S>, T: Tokens<S>>(
     alloc: Global,
     tokens: &mut T,
 ) -> Result<Option<V>>
-    requires { InArray (T.stand tokens.old).spot }
+    requires { InArray (T.state tokens.old).expected }
     ensures element { IfOk result (λ r. IfSome r (λ v.
-        ReadsTree T.taken T.stand V.from_tree tokens.old tokens.new (gives (V.datum v)))) }
+        ReadsTree T.taken T.state V.from_tree tokens.old tokens.new (gives (V.datum v)))) }
     ensures end { IfOk result (λ r. r ≡ None
-        → TakesOne T.taken T.stand tokens.old tokens.new (end_token array)) }
+        → TakesOne T.taken T.state tokens.old tokens.new (end_token array)) }
     ensures err { IfErr result (λ e.
-        StopsReading T.taken T.stand V.from_tree tokens.old tokens.new e) }
+        StopsReading T.taken T.state V.from_tree tokens.old tokens.new e) }
 {
-    if let Some(found) = V::found(alloc, tokens)? {
+    if let Some(found) = V::try_deserialize(alloc, tokens)? {
         return Ok(Some(found));
     }
     element_by_kind(alloc, tokens)
@@ -302,24 +304,24 @@ fn next_element<S: Lent, V: DeserializeFrom<S>, T: Tokens<S>>(
 
 /// What is left of a list whose beginning was taken.
 #[inline(never)]
-fn read_elements<S: Lent, V: DeserializeFrom<S> + Drop, T: Tokens<S>>(
+fn read_elements<S: InputStr, V: DeserializeFrom<S> + Drop, T: Tokens<S>>(
     alloc: Global,
     tokens: &mut T,
 ) -> Result<Vec<V>>
-    requires { InArray (T.stand tokens.old).spot }
-    ensures ok { (a : T) → TakesOne T.taken T.stand a tokens.old (begin_token array)
-        → IfOk result (λ v. ReadsNonNull T.taken T.stand (read_list V.from_tree) a tokens.new
+    requires { InArray (T.state tokens.old).expected }
+    ensures ok { (a : T) → TakesOne T.taken T.state a tokens.old (begin_token array)
+        → IfOk result (λ v. ReadsNonNull T.taken T.state (read_list V.from_tree) a tokens.new
         (gives (list_datum (list_data (map V.datum v.items))))) }
-    ensures err { (a : T) → TakesOne T.taken T.stand a tokens.old (begin_token array)
-        → IfErr result (λ e. Misses T.taken T.stand (read_list V.from_tree) a tokens.new e) }
+    ensures err { (a : T) → TakesOne T.taken T.state a tokens.old (begin_token array)
+        → IfErr result (λ e. Misses T.taken T.state (read_list V.from_tree) a tokens.new e) }
 {
     let mut all = Vec::new(alloc);
     'each: loop {
-        match V::found(alloc, tokens) {
+        match V::try_deserialize(alloc, tokens) {
             Ok(found) => {
                 if let Some(element) = found {
                     if all.push(element).is_err() {
-                        return Err(refusal(ErrorCode::NoMemory));
+                        return Err(error_without_place(ErrorCode::NoMemory));
                     }
                     continue;
                 }
@@ -330,7 +332,7 @@ fn read_elements<S: Lent, V: DeserializeFrom<S> + Drop, T: Tokens<S>>(
             Ok(next) => match next {
                 Some(element) => {
                     if all.push(element).is_err() {
-                        return Err(refusal(ErrorCode::NoMemory));
+                        return Err(error_without_place(ErrorCode::NoMemory));
                     }
                 }
                 None => return Ok(all),
@@ -340,18 +342,18 @@ fn read_elements<S: Lent, V: DeserializeFrom<S> + Drop, T: Tokens<S>>(
     }
 }
 
-impl<S: Lent, V: DeserializeFrom<S> + Drop> DeserializeFrom<S> for Vec<V> {
+impl<S: InputStr, V: DeserializeFrom<S> + Drop> DeserializeFrom<S> for Vec<V> {
     ghost datum = { λ v. list_datum (list_data (map V.datum v.items)) };
 
     ghost from_tree = { read_list V.from_tree };
 
     fn deserialize<T: Tokens<S>>(alloc: Global, tokens: &mut T) -> Result<Vec<V>> {
-        open(tokens, Kind::Array)?;
+        open_container(tokens, Kind::Array)?;
         read_elements(alloc, tokens)
     }
 
     #[inline(always)]
-    fn found<T: Tokens<S>>(alloc: Global, tokens: &mut T) -> Result<Option<Vec<V>>> {
+    fn try_deserialize<T: Tokens<S>>(alloc: Global, tokens: &mut T) -> Result<Option<Vec<V>>> {
         if !tokens.begins(Kind::Array) {
             return Ok(None);
         }
@@ -364,27 +366,27 @@ impl<S: Lent, V: DeserializeFrom<S> + Drop> DeserializeFrom<S> for Vec<V> {
 
 /// What is left of a list of two whose beginning was taken.
 #[inline(always)]
-fn read_two<S: Lent, A: DeserializeFrom<S> + Drop, B: DeserializeFrom<S> + Drop, T: Tokens<S>>(
+fn read_two<S: InputStr, A: DeserializeFrom<S> + Drop, B: DeserializeFrom<S> + Drop, T: Tokens<S>>(
     alloc: Global,
     tokens: &mut T,
 ) -> Result<(A, B)>
-    requires { InArray (T.stand tokens.old).spot }
-    ensures ok { (a : T) → TakesOne T.taken T.stand a tokens.old (begin_token array)
-        → IfOk result (λ p. ReadsNonNull T.taken T.stand
+    requires { InArray (T.state tokens.old).expected }
+    ensures ok { (a : T) → TakesOne T.taken T.state a tokens.old (begin_token array)
+        → IfOk result (λ p. ReadsNonNull T.taken T.state
         (read_pair A.from_tree B.from_tree) a tokens.new
         (gives (list_datum (list_data (A.datum p.0 ∷ B.datum p.1 ∷ []))))) }
-    ensures err { (a : T) → TakesOne T.taken T.stand a tokens.old (begin_token array)
+    ensures err { (a : T) → TakesOne T.taken T.state a tokens.old (begin_token array)
         → IfErr result (λ e.
-        Misses T.taken T.stand (read_pair A.from_tree B.from_tree) a tokens.new e) }
+        Misses T.taken T.state (read_pair A.from_tree B.from_tree) a tokens.new e) }
 {
     let first = match next_element(alloc, tokens) {
         Ok(Some(first)) => first,
-        Ok(None) => return Err(refusal(ErrorCode::TypeUnmatched)),
+        Ok(None) => return Err(error_without_place(ErrorCode::TypeUnmatched)),
         Err(e) => return Err(leave_after(tokens, e)),
     };
     let second = match next_element(alloc, tokens) {
         Ok(Some(second)) => second,
-        Ok(None) => return Err(refusal(ErrorCode::TypeUnmatched)),
+        Ok(None) => return Err(error_without_place(ErrorCode::TypeUnmatched)),
         Err(e) => return Err(leave_after(tokens, e)),
     };
     if tokens.ends(Kind::Array) {
@@ -392,24 +394,24 @@ fn read_two<S: Lent, A: DeserializeFrom<S> + Drop, B: DeserializeFrom<S> + Drop,
     }
     if tokens.peek()? != TokenKind::EndArray {
         tokens.leave()?;
-        return Err(refusal(ErrorCode::TypeUnmatched));
+        return Err(error_without_place(ErrorCode::TypeUnmatched));
     }
-    pass(tokens)?;
+    skip_token(tokens)?;
     Ok((first, second))
 }
 
-impl<S: Lent, A: DeserializeFrom<S> + Drop, B: DeserializeFrom<S> + Drop> DeserializeFrom<S>
+impl<S: InputStr, A: DeserializeFrom<S> + Drop, B: DeserializeFrom<S> + Drop> DeserializeFrom<S>
     for (A, B) {
     ghost datum = { λ p. list_datum (list_data (A.datum p.0 ∷ B.datum p.1 ∷ [])) };
 
     ghost from_tree = { read_pair A.from_tree B.from_tree };
 
     fn deserialize<T: Tokens<S>>(alloc: Global, tokens: &mut T) -> Result<(A, B)> {
-        open(tokens, Kind::Array)?;
+        open_container(tokens, Kind::Array)?;
         read_two(alloc, tokens)
     }
 
-    fn found<T: Tokens<S>>(alloc: Global, tokens: &mut T) -> Result<Option<(A, B)>> {
+    fn try_deserialize<T: Tokens<S>>(alloc: Global, tokens: &mut T) -> Result<Option<(A, B)>> {
         if !tokens.begins(Kind::Array) {
             return Ok(None);
         }

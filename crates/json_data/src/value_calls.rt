@@ -1,13 +1,13 @@
 // Values read from a value.
 ghost use Rattle.std.specs.Prelude.{◌≡◌, IfOk, IfErr};
 ghost use Rattle.json_value.specs.Denotes.{tree_of};
-ghost use Rattle.json_value.specs.Sights.{whole_value};
+ghost use Rattle.json_value.specs.ViewTargets.{whole_value};
 ghost use Rattle.json_data.specs.Reading.{gives};
 ghost use Rattle.json_data.specs.ValueCalls.{TreeReadingFails};
 ghost use Rattle.json_tokens.specs.Values.{IsMadeOf};
 
 use crate::deserialize::{Deserialize, DeserializeFrom};
-use json_text::Result;
+use json_io::Result;
 use json_tokens::ValueTokens;
 use json_value::Value;
 use std::alloc::Global;

@@ -5,12 +5,12 @@ ghost use Rattle.json_value.specs.declared.value.Value.{Array as ArrayValue, Obj
 ghost use Rattle.json_data.specs.ReadingValues.{value_datum, read_value, read_array, read_object_value};
 
 use crate::deserialize::DeserializeFrom;
-use json_text::{ErrorCode, Result};
-use json_tokens::{Lent, TokenKind, Tokens, refusal};
+use json_io::{ErrorCode, Result};
+use json_tokens::{InputStr, TokenKind, Tokens, error_without_place};
 use json_value::{Array, Object, Value};
 use std::alloc::Global;
 
-impl<S: Lent> DeserializeFrom<S> for Value {
+impl<S: InputStr> DeserializeFrom<S> for Value {
     ghost datum = { λ v. value_datum (tree_of v) };
 
     ghost from_tree = { read_value };
@@ -22,7 +22,7 @@ impl<S: Lent> DeserializeFrom<S> for Value {
     }
 }
 
-impl<S: Lent> DeserializeFrom<S> for Array {
+impl<S: InputStr> DeserializeFrom<S> for Array {
     ghost datum = { λ a. value_datum (list (list_trees (list_in a))) };
 
     ghost from_tree = { read_array };
@@ -32,7 +32,7 @@ impl<S: Lent> DeserializeFrom<S> for Array {
     fn deserialize<T: Tokens<S>>(alloc: Global, tokens: &mut T) -> Result<Array> {
         if tokens.peek()? != TokenKind::BeginArray {
             tokens.skip()?;
-            return Err(refusal(ErrorCode::TypeUnmatched));
+            return Err(error_without_place(ErrorCode::TypeUnmatched));
         }
         match tokens.value(alloc)?.into_array() {
             Some(array) => Ok(array),
@@ -41,7 +41,7 @@ impl<S: Lent> DeserializeFrom<S> for Array {
     }
 }
 
-impl<S: Lent> DeserializeFrom<S> for Object {
+impl<S: InputStr> DeserializeFrom<S> for Object {
     ghost datum = { λ o. value_datum (pairs (list_pairs (pairs_in o))) };
 
     ghost from_tree = { read_object_value };
@@ -51,7 +51,7 @@ impl<S: Lent> DeserializeFrom<S> for Object {
     fn deserialize<T: Tokens<S>>(alloc: Global, tokens: &mut T) -> Result<Object> {
         if tokens.peek()? != TokenKind::BeginObject {
             tokens.skip()?;
-            return Err(refusal(ErrorCode::TypeUnmatched));
+            return Err(error_without_place(ErrorCode::TypeUnmatched));
         }
         match tokens.value(alloc)?.into_object() {
             Some(object) => Ok(object),

@@ -40,7 +40,7 @@ pub fn each_holds<R: Row>(rt: &impl Abort, alloc: Global, rows: &[R]) {
 }
 
 /// What is refused, and at which offset.
-pub fn refusal<T: Drop>(outcome: Result<T>) -> Refused {
+pub fn refused_at<T: Drop>(outcome: Result<T>) -> Refused {
     match outcome {
         Ok(_) => None,
         Err(error) => Some((error.code, error.offset())),

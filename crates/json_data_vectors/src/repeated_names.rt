@@ -121,7 +121,7 @@ fn names_that_repeat(rt: HostRuntime) {
 fn second_of_a_name(alloc: Global) -> bool {
     match from_str::<BTreeMap<String, Vec<bool>>>(alloc, "{\"a\": [true], \"a\": [1]}") {
         Ok(_) => false,
-        Err(error) => match error.refusal() {
+        Err(error) => match error.refused() {
             Some(refusal) => matches!(
                 refusal.steps(),
                 [Step::Key(key, 1), Step::Index(0)] if key.as_str() == "a"

@@ -1,6 +1,6 @@
 // The same values and refusals of values, with no place.
 use crate::looks::{Row, each_holds, holds};
-use json_data::{Deserialize, from_value, refusal};
+use json_data::{Deserialize, error_without_place, from_value};
 use json_fixtures::value_of;
 use json_number::RawNumber;
 use json_text::{Error, ErrorCode, Result};
@@ -52,8 +52,8 @@ fn pairs_are_read(alloc: Global, unmatched: Error) -> bool {
 #[test]
 fn the_same_codes_by_from_value(rt: HostRuntime) {
     let alloc = rt.alloc();
-    let unmatched = refusal(ErrorCode::TypeUnmatched);
-    let range = refusal(ErrorCode::NumberOutOfRange);
+    let unmatched = error_without_place(ErrorCode::TypeUnmatched);
+    let range = error_without_place(ErrorCode::NumberOutOfRange);
     assert!(rt; integers_are_refused(alloc, range, unmatched));
     assert!(rt; pairs_are_read(alloc, unmatched));
     assert!(rt; holds(raw(alloc, "\"0.123\"", "0.123")));
@@ -73,7 +73,7 @@ impl Row for FlagKey {
     fn holds(&self, alloc: Global) -> bool {
         match self.answer {
             Ok(count) => flags(alloc, self.json) == Ok(count),
-            Err(code) => flags(alloc, self.json) == Err(refusal(code)),
+            Err(code) => flags(alloc, self.json) == Err(error_without_place(code)),
         }
     }
 }

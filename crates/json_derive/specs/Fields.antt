@@ -7,30 +7,30 @@ use Rattle.json_io.specs.declared.error.Error.{Error}
 use Rattle.json_io.specs.declared.error.ErrorCode.TheVariants.{TypeUnmatched}
 use Rattle.json_data.specs.Members.{read_object, reading_then}
 use Rattle.json_data.specs.Reading.{Reading, gives, refuses, Series, gives_all, stops, prepend_reading, as_list}
-use Rattle.json_tokens.specs.Refusals.{is_refusal, refusal}
+use Rattle.json_tokens.specs.Refusals.{is_refusal, error_without_place}
 
 -- a field: the name of its member, what is read of the member's value, and what the field is where the member is missing
-pub record Field : Type 0 where
+pub record StructField : Type 0 where
   pub name : List ℕ
   pub reads : Tree → Reading
   pub missing : Reading
 
 -- a field whose member must be there
-abbrev pub required : List ℕ → (Tree → Reading) → Field
+abbrev pub required : List ℕ → (Tree → Reading) → StructField
 required k f = record { name = k; reads = f; missing = refuses TypeUnmatched }
 
 -- a field that is d where its member is missing
-abbrev pub or_default : List ℕ → (Tree → Reading) → Datum → Field
+abbrev pub or_default : List ℕ → (Tree → Reading) → Datum → StructField
 or_default k f d = record { name = k; reads = f; missing = gives d }
 
 -- the fields of a struct, and whether a member of another name is refused
 pub record Struct : Type 0 where
-  pub fields : List Field
+  pub fields : List StructField
   pub strict : Bool
 
 -- ---- what a struct means
 
-abbrev pub field_rows : List Field → List Datum → Rows
+abbrev pub field_rows : List StructField → List Datum → Rows
 field_rows (f ∷ fs) (d ∷ ds) = row_and (text_datum f.name) d (field_rows fs ds)
 field_rows fs ds = no_rows
 
@@ -61,7 +61,7 @@ unknown_member true = stops TypeUnmatched
 unknown_member false = gives_all []
 
 -- a member goes to its field, where it takes the place of an earlier one
-abbrev pub with_field_member : Bool → List Field → List Datum → List ℕ → Tree → Series
+abbrev pub with_field_member : Bool → List StructField → List Datum → List ℕ → Tree → Series
 with_field_member strict (f ∷ fs) (d ∷ ds) k t = if bytes_eq k f.name then prepend_reading (present_reading (f.reads t)) (gives_all ds) else prepend_reading (gives d) (with_field_member strict fs ds k t)
 with_field_member strict fs ds k t = unknown_member strict
 
@@ -70,16 +70,16 @@ struct_step s (list_datum ds) k t = as_list (with_field_member s.strict s.fields
 struct_step s d k t = refuses TypeUnmatched
 
 -- no member was read
-abbrev pub no_members : List Field → Data
+abbrev pub no_members : List StructField → Data
 no_members [] = no_data
 no_members (f ∷ fs) = datum_and null_datum (no_members fs)
 
 -- what a field is in the end
-abbrev pub field_value : Field → Datum → Reading
+abbrev pub field_value : StructField → Datum → Reading
 field_value f (list_datum (datum_and d no_data)) = gives d
 field_value f d = f.missing
 
-abbrev pub field_values : List Field → List Datum → Series
+abbrev pub field_values : List StructField → List Datum → Series
 field_values (f ∷ fs) (d ∷ ds) = prepend_reading (field_value f d) (field_values fs ds)
 field_values fs ds = gives_all []
 
@@ -98,5 +98,5 @@ read_struct s = read_object (struct_step s) (list_datum (no_members s.fields)) (
 
 -- why no struct is made: memory ran out, or a member that must be there is missing
 pub record BuildFails (made : Reading) (e : Error) : Type 0 where
-  pub refused : is_refusal e.code ≡ true → (e ≡ refusal e.code) × (made ≡ refuses e.code)
+  pub refused : is_refusal e.code ≡ true → (e ≡ error_without_place e.code) × (made ≡ refuses e.code)
   pub gave_up : is_refusal e.code ≡ false → e ≡ no_memory

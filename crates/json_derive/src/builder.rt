@@ -4,12 +4,13 @@ ghost use Rattle.json_model.specs.Datum.{Datum, Data, list_datum};
 ghost use Rattle.json_io.specs.declared.error.ErrorCode.TheVariants as ErrorCode;
 ghost use Rattle.json_data.specs.Reader.{ReadsTree, ReadsNonNull, Misses, StopsReading};
 ghost use Rattle.json_data.specs.Reading.{gives};
-ghost use Rattle.json_tokens.specs.Refusals.{refusal as spec_refusal};
-ghost use Rattle.json_tokens.specs.Stand.{NotWhole, WantsValue};
+ghost use Rattle.json_tokens.specs.Refusals.{error_without_place as spec_refusal};
+ghost use Rattle.json_tokens.specs.TokensStates.{NotWhole, WantsValue};
 ghost use Rattle.json_derive.specs.Fields.{Struct, struct_step, no_members, made_struct, struct_datum, read_struct as spec_read_struct, BuildFails};
 
-use json_data::{Lent, Members, Tokens, find_members, read_members, refusal};
-use json_text::{ErrorCode, Result};
+use json_data::{Members, read_members, try_read_members};
+use json_io::{ErrorCode, Result};
+use json_tokens::{InputStr, Tokens, error_without_place};
 use std::alloc::Global;
 
 /// The members of a struct, as far as they were read. `tools/derive` writes the impls.
@@ -21,7 +22,7 @@ use std::alloc::Global;
 /// assert_eq!(rt; (ada.name.as_str(), ada.age), ("Ada", 36));
 /// assert!(rt; ada.phones.is_empty());
 /// ```
-pub trait Builder<S: Lent>: Sized {
+pub trait Builder<S: InputStr>: Sized {
     /// The struct.
     type Built;
 
@@ -41,11 +42,11 @@ pub trait Builder<S: Lent>: Sized {
     /// Takes the value of the member of that name. If the value is refused, the whole of it was
     /// taken.
     fn member<T: Tokens<S>>(&mut self, alloc: Global, name: &str, tokens: &mut T) -> Result<()>
-        requires { WantsValue (T.stand tokens.old) }
-        ensures ok { OnOk result (ReadsTree T.taken T.stand
+        requires { WantsValue (T.state tokens.old) }
+        ensures ok { OnOk result (ReadsTree T.taken T.state
             (struct_step shape (list_datum (so_far self.old)) name.now)
             tokens.old tokens.new (gives (list_datum (so_far self.new)))) }
-        ensures err { IfErr result (λ e. StopsReading T.taken T.stand
+        ensures err { IfErr result (λ e. StopsReading T.taken T.state
             (struct_step shape (list_datum (so_far self.old)) name.now) tokens.old tokens.new e) };
 
     /// Returns the struct. Fails with `TypeUnmatched` if a member that must be there is missing,
@@ -63,7 +64,7 @@ struct Building<B> {
     builder: B,
 }
 
-impl<S: Lent, B: Builder<S>> Members<S> for Building<B> {
+impl<S: InputStr, B: Builder<S>> Members<S> for Building<B> {
     ghost so_far = { λ b. list_datum (B.so_far b.builder) };
 
     ghost step = { struct_step B.shape };
@@ -82,22 +83,22 @@ pub fn required<V>(value: Option<V>) -> Result<V>
 {
     match value {
         Some(value) => Ok(value),
-        None => Err(refusal(ErrorCode::TypeUnmatched)),
+        None => Err(error_without_place(ErrorCode::TypeUnmatched)),
     }
 }
 
 /// Takes an object and returns the struct of its members. Fails with `TypeUnmatched` if the next
 /// value is no object or a member is missing. If a member is refused, the rest of the object is
 /// read first.
-pub fn read_struct<S: Lent, B: Builder<S> + Drop, T: Tokens<S>>(
+pub fn read_struct<S: InputStr, B: Builder<S> + Drop, T: Tokens<S>>(
     alloc: Global,
     tokens: &mut T,
 ) -> Result<B::Built>
-    requires { WantsValue (T.stand tokens.old) }
-    ensures ok { IfOk result (λ v. ReadsTree T.taken T.stand (spec_read_struct B.shape)
+    requires { WantsValue (T.state tokens.old) }
+    ensures ok { IfOk result (λ v. ReadsTree T.taken T.state (spec_read_struct B.shape)
         tokens.old tokens.new (gives (struct_datum B.shape (B.values v)))) }
     ensures err { IfErr result (λ e.
-        StopsReading T.taken T.stand (spec_read_struct B.shape) tokens.old tokens.new e) }
+        StopsReading T.taken T.state (spec_read_struct B.shape) tokens.old tokens.new e) }
 {
     let mut members = Building { builder: B::new() };
     match read_members(alloc, &mut members, tokens) {
@@ -113,20 +114,20 @@ pub fn read_struct<S: Lent, B: Builder<S> + Drop, T: Tokens<S>>(
 
 /// Takes an object as `read_struct` does where its beginning is found at once. Else nothing is
 /// taken, and the result is `None`. Fails as `read_struct` does.
-pub fn find_struct<S: Lent, B: Builder<S> + Drop, T: Tokens<S>>(
+pub fn try_read_struct<S: InputStr, B: Builder<S> + Drop, T: Tokens<S>>(
     alloc: Global,
     tokens: &mut T,
 ) -> Result<Option<B::Built>>
-    requires { NotWhole (T.stand tokens.old) }
+    requires { NotWhole (T.state tokens.old) }
     ensures none { IfOk result (λ o. o ≡ None → tokens.new ≡ tokens.old) }
     ensures ok { IfOk result (λ o. IfSome o (λ v.
-        ReadsNonNull T.taken T.stand (spec_read_struct B.shape)
+        ReadsNonNull T.taken T.state (spec_read_struct B.shape)
         tokens.old tokens.new (gives (struct_datum B.shape (B.values v))))) }
     ensures err { IfErr result (λ e.
-        Misses T.taken T.stand (spec_read_struct B.shape) tokens.old tokens.new e) }
+        Misses T.taken T.state (spec_read_struct B.shape) tokens.old tokens.new e) }
 {
     let mut members = Building { builder: B::new() };
-    match find_members(alloc, &mut members, tokens) {
+    match try_read_members(alloc, &mut members, tokens) {
         Ok(true) => {}
         Ok(false) => return Ok(None),
         Err(error) => return Err(error),

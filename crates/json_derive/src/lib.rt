@@ -25,8 +25,8 @@
 
 mod builder;
 
-pub use builder::{Builder, find_struct, read_struct, required};
-pub use json_data::{DeserializeFrom, Lent, Tokens, refusal};
+pub use builder::{Builder, read_struct, required, try_read_struct};
+pub use json_data::{DeserializeFrom, InputStr, Tokens, error_without_place};
 pub use json_print::Events;
 pub use json_text::{ErrorCode, Result};
-pub use json_write::{Field, KeyRoom, Serialize, give_fields};
+pub use json_write::{Field, KeyRoom, Serialize, serialize_fields};

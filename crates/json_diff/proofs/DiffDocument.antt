@@ -4,7 +4,7 @@ use Rattle.std.proofs.lemmas.List.{length-map}
 use Rattle.json_grammar.specs.Sizes.{nodes}
 use Rattle.json_grammar.specs.Tree.{Tree, list, no_trees, list_trees, trees_list}
 use Rattle.json_model.specs.Same.{same}
-use Rattle.json_patch.specs.Patch.{Operation, add, remove, replace, move, copy, test, operation_with_value, with_path, operation_of, applied_from, patched}
+use Rattle.json_patch.specs.Patch.{Operation, add_at, remove, replace, move, copy, test, operation_with_value, with_path, operation_of, applied_from, patched}
 use Rattle.json_diff.specs.Diff.{operations_between}
 use Rattle.json_diff.specs.DiffDocument.{operation_below, patch_document, patch_between, operation_count, PatchLeads, EmptyPatchBetweenSame}
 use Rattle.json_patch.proofs.PointerTexts.{pointer_text_parses}
@@ -14,7 +14,7 @@ use Rattle.json_diff.proofs.DiffSteps.{IsBelowRoot, AreBelowRoot}
 use Rattle.json_diff.proofs.OperationsLead.{all_operations_below, operations_lead, no_operations_between_same}
 
 document_read : (o : Operation) → IsBelowRoot o → operation_of (operation_below [] o) ≡ Some o
-document_read (add p u) h = ap (λ q. operation_with_value add q (Some u)) (pointer_text_parses p)
+document_read (add_at p u) h = ap (λ q. operation_with_value add_at q (Some u)) (pointer_text_parses p)
 document_read (remove p) h = ap (λ q. with_path remove q) (pointer_text_parses p)
 document_read (replace p u) h = ap (λ q. operation_with_value replace q (Some u)) (pointer_text_parses p)
 document_read (move q p) h = absurd h

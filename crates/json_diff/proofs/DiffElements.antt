@@ -7,7 +7,7 @@ use Rattle.json_grammar.specs.Tree.{Tree, list, Trees, no_trees, tree_and, trees
 use Rattle.json_model.specs.Edit.{index_step, remove_at, not_found, within, pushed, without_index, edited_once, and_then}
 use Rattle.json_model.specs.Same.{same, trees_same}
 use Rattle.json_patch.specs.Pointer.{step_of_token, index_of_token}
-use Rattle.json_patch.specs.Patch.{Operation, add, remove, insert_before, insert_at_index, lookup_outcome, applied}
+use Rattle.json_patch.specs.Patch.{Operation, add_at, remove, insert_before, insert_at_index, lookup_outcome, applied}
 use Rattle.json_diff.specs.Diff.{under, common_front, common_back, element_removals}
 use Rattle.json_patch.proofs.Indexes.{decimal_is_index}
 use Rattle.json_patch.proofs.PatchLaws.{no_dash}
@@ -49,7 +49,7 @@ module _ (i : ℕ) (done : List Tree) (is : i ≡ length done) (low : i < 2 ^ 64
       ∙ ap (within list) (removed_there done x rest)
       )
 
-  pub element_added : (u : Tree) (rest : List Tree) → applied (add (decimal i ∷ []) u) (array rest) ≡ Ok (array (u ∷ rest))
+  pub element_added : (u : Tree) (rest : List Tree) → applied (add_at (decimal i ∷ []) u) (array rest) ≡ Ok (array (u ∷ rest))
   element_added u rest = ap lookup_outcome (
       ap (λ b. within list (cond b (Ok (pushed u (list_trees (done ++ rest)))) (insert_at_index (index_of_token (decimal i)) u (list_trees (done ++ rest))))) (no_dash (decimal i) i index)
       ∙ ap (λ o. within list (insert_at_index o u (list_trees (done ++ rest)))) index

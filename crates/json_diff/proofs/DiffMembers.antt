@@ -7,7 +7,7 @@ use Rattle.json_model.specs.Edit.{key_step, not_found, within, inserted, without
 use Rattle.json_model.specs.Same.{first_value, same}
 use Rattle.json_model.proofs.Equality.{same_itself}
 use Rattle.json_model.proofs.Members.{same_key, key_itself}
-use Rattle.json_patch.specs.Patch.{Operation, add, remove, lookup_outcome}
+use Rattle.json_patch.specs.Patch.{Operation, add_at, remove, lookup_outcome}
 use Rattle.json_patch.specs.Merge.{pairs_merged}
 use Rattle.json_diff.specs.MergeDiff.{has_unique_keys, removals}
 use Rattle.json_diff.specs.Diff.{under, key_removals, member_operations}
@@ -57,7 +57,7 @@ replaced_inserted k x y (pair_and n t ps) h = by (bytes_eq n k) h (replaced_inse
 -- the value of one key is made
 pub member_makes : (ms : Pairs) (k : List ℕ) (old : Option Tree) (v : Tree) (os : List Operation) → first_value k ms ≡ old → ((t : Tree) → old ≡ Some t → Led os t v)
     → (y : Tree) × Makes (member_operations k old v os) (pairs ms) (pairs (inserted k y ms)) × (same y v ≡ true)
-member_makes ms k None v os e h = (v, made_one (add (k ∷ []) v) (pairs ms) (pairs (inserted k v ms)) refl, same_itself v)
+member_makes ms k None v os e h = (v, made_one (add_at (k ∷ []) v) (pairs ms) (pairs (inserted k v ms)) refl, same_itself v)
 member_makes ms k (Some t) v os e h =
     let a = h t refl in
     let y : Tree = a.1.0 in

@@ -9,7 +9,7 @@ use Rattle.json_model.specs.Edit.{has_key}
 use Rattle.json_model.specs.Same.{first_value, same}
 use Rattle.json_doc_print.proofs.Trees.{list_again}
 use Rattle.json_patch.specs.Pointer.{ReferenceToken, slash, escaped_token}
-use Rattle.json_patch.specs.Patch.{Operation, add, remove, replace}
+use Rattle.json_patch.specs.Patch.{Operation, add_at, remove, replace}
 use Rattle.json_diff.specs.MergeDiff.{has_unique_keys}
 use Rattle.json_diff.specs.Diff.{under, whole, key_removals, common_front, common_back, element_removals, are_addressable, operations_between, members_operations, element_operations}
 use Rattle.json_diff.specs.DiffDocument.{operation_below}
@@ -27,7 +27,7 @@ whole_of_others t u e = ap (λ b. cond b [] (replace [] u ∷ [])) (sym e)
 -- ---- below a token
 
 pub child_below : (b : List ℕ) (k : ReferenceToken) (o : Option Tree) (u : Tree) → map (operation_below (b ++ (slash ∷ escaped_token k))) (child_operations o u) ≡ map (operation_below b) (operations_at k o u)
-child_below b k None u = sym (document_under b k (add [] u ∷ []))
+child_below b k None u = sym (document_under b k (add_at [] u ∷ []))
 child_below b k (Some t) u = sym (document_under b k (operations_between t u))
 
 -- ---- members
@@ -127,7 +127,7 @@ only_first : (i : ℕ) (ts : List Tree) (m : ℕ) (us : List Tree) → element_o
 only_first i ts zero [] = refl
 only_first i ts (suc m) [] = refl
 only_first i ts zero (u ∷ us) = refl
-only_first i [] (suc m) (u ∷ us) = ap (λ os. add (decimal i ∷ []) u ∷ os) (only_first (suc i) [] m us)
+only_first i [] (suc m) (u ∷ us) = ap (λ os. add_at (decimal i ∷ []) u ∷ os) (only_first (suc i) [] m us)
 only_first i (t ∷ ts) (suc m) (u ∷ us) = ap (λ os. map (under (decimal i)) (operations_between t u) ++ os) (only_first (suc i) ts m us)
 
 pub array_operations : (ts us before others : List Tree) (n m : ℕ) → length ts < 18446744073709551616 → length us < 18446744073709551616 → n ≡ common_back ts us → before ≡ take (length ts - n) ts → others ≡ take (length us - n) us → m ≡ length us - n

@@ -4,7 +4,7 @@ use Rattle.json_grammar.specs.Tree.{Tree}
 use Rattle.json_model.specs.Edit.{Step, Changed, remove_at, within, at_path, removed, edited_once, and_then}
 use Rattle.json_patch.specs.ValuesAt.{value_at_step, value_at_path}
 use Rattle.json_patch.specs.Pointer.{ReferenceToken, step_of_token, path_of_tokens}
-use Rattle.json_patch.specs.Patch.{Operation, add, remove, replace, move, copy, test, PatchFailure, split_last, with_child, added_at, removal_edit, removed_at, replaced_at, lookup_outcome, applied, applied_from}
+use Rattle.json_patch.specs.Patch.{Operation, add_at, remove, replace, move, copy, test, PatchFailure, split_last, with_child, added_at, removal_edit, removed_at, replaced_at, lookup_outcome, applied, applied_from}
 use Rattle.json_diff.specs.Diff.{under}
 use Rattle.json_patch.proofs.ReplacedAt.{replaced_at_step, at_path-step, child_same, child_now, child_twice}
 use Rattle.json_patch.proofs.PointerTexts.{step_stays}
@@ -56,8 +56,8 @@ outcome_ok (Err r) y e = cc
 
 -- an operation that does not add or remove the root
 abbrev pub IsBelowRoot : Operation → Type 0
-IsBelowRoot (add [] u) = ⊥
-IsBelowRoot (add (k ∷ p) u) = Unit {0}
+IsBelowRoot (add_at [] u) = ⊥
+IsBelowRoot (add_at (k ∷ p) u) = Unit {0}
 IsBelowRoot (remove []) = ⊥
 IsBelowRoot (remove (k ∷ p)) = Unit {0}
 IsBelowRoot (replace p u) = Unit {0}
@@ -74,8 +74,8 @@ below_both [] ps h g = g
 below_both (o ∷ os) ps h g = (h.0, below_both os ps h.1 g)
 
 under_below : (k : ReferenceToken) (o : Operation) → IsBelowRoot o → IsBelowRoot (under k o)
-under_below k (add [] u) h = absurd h
-under_below k (add (j ∷ p) u) h = tt
+under_below k (add_at [] u) h = absurd h
+under_below k (add_at (j ∷ p) u) h = tt
 under_below k (remove []) h = absurd h
 under_below k (remove (j ∷ p)) h = tt
 under_below k (replace p u) h = tt
@@ -131,8 +131,8 @@ module _ (k : ReferenceToken) (s : Step) (c x : Tree) (is : step_of_token k c �
       by (Err e) = refl
 
   applied_in : (o : Operation) (y : Tree) → IsBelowRoot o → applied o x ≡ Ok y → applied (under k o) c ≡ Ok (put y)
-  applied_in (add [] u) y h e = absurd h
-  applied_in (add (j ∷ p) u) y h e = ap lookup_outcome (added_in j p u ∙ ap (within put) (outcome_ok (added_at (j ∷ p) u x) y e))
+  applied_in (add_at [] u) y h e = absurd h
+  applied_in (add_at (j ∷ p) u) y h e = ap lookup_outcome (added_in j p u ∙ ap (within put) (outcome_ok (added_at (j ∷ p) u x) y e))
   applied_in (remove []) y h e = absurd h
   applied_in (remove (j ∷ p)) y h e = ap lookup_outcome (removed_in j p ∙ ap (within put) (outcome_ok (removed_at (j ∷ p) x) y e))
   applied_in (replace p u) y h e = ap lookup_outcome (replaced_in p u ∙ ap (within put) (outcome_ok (replaced_at p u x) y e))

@@ -10,7 +10,7 @@ use Rattle.json_model.specs.Edit.{inserted, has_key}
 use Rattle.json_model.specs.Same.{keys, first_value, same, trees_same, first_same}
 use Rattle.json_model.proofs.Equality.{same_itself, first_agree}
 use Rattle.json_model.proofs.Members.{same_key, key_itself}
-use Rattle.json_patch.specs.Patch.{Operation, add, remove, replace}
+use Rattle.json_patch.specs.Patch.{Operation, add_at, remove, replace}
 use Rattle.json_patch.specs.Merge.{members_or_none, pairs_merged}
 use Rattle.json_diff.specs.MergeDiff.{has_unique_keys, is_object, removals}
 use Rattle.json_diff.specs.Diff.{under, whole, key_removals, member_operations, is_array, array_elements, common_back, element_removals, are_addressable, operations_between, members_operations, element_operations, OperationsLead, NoOperationsBetweenSame}
@@ -155,8 +155,8 @@ element_one u us led more i done ts back zero is low high = ([], elements_remove
 element_one u us led more i done [] back (suc m) is low high =
     let rest = more (suc i) (done ++ u ∷ []) [] back m (ap suc is ∙ sym (length_more done u)) (omega arith) (omega arith) in (
       u ∷ rest.0,
-      makes_more (add (decimal i ∷ []) u ∷ []) (element_operations (suc i) [] m us) (list (list_trees (done ++ back))) done back (rest.0 ++ back) u
-          (made_one (add (decimal i ∷ []) u) (list (list_trees (done ++ back))) (list (list_trees (done ++ (u ∷ back)))) (element_added i done is (omega arith) u back)) rest.1,
+      makes_more (add_at (decimal i ∷ []) u ∷ []) (element_operations (suc i) [] m us) (list (list_trees (done ++ back))) done back (rest.0 ++ back) u
+          (made_one (add_at (decimal i ∷ []) u) (list (list_trees (done ++ back))) (list (list_trees (done ++ (u ∷ back)))) (element_added i done is (omega arith) u back)) rest.1,
       and_from (same u u) (trees_same (list_trees rest.0) (taken m us)) (same_itself u) rest.2,
     )
 element_one u us led more i done (t ∷ ts) back (suc m) is low high =

@@ -5,14 +5,14 @@ use Rattle.json_grammar.specs.Tree.{Tree, null, boolean, num, text, list, pairs,
 use Rattle.json_model.specs.Edit.{has_key}
 use Rattle.json_model.specs.Same.{first_value, same}
 use Rattle.json_patch.specs.Pointer.{ReferenceToken}
-use Rattle.json_patch.specs.Patch.{Operation, add, remove, replace, move, copy, test, applied_from}
+use Rattle.json_patch.specs.Patch.{Operation, add_at, remove, replace, move, copy, test, applied_from}
 use Rattle.json_patch.specs.Merge.{members_or_none}
 use Rattle.json_diff.specs.MergeDiff.{has_unique_keys, is_object}
 use Rattle.json_value.specs.Steps.{tree_or_null}
 
 -- the operation on the value that the token references
 abbrev pub under : ReferenceToken → Operation → Operation
-under k (add p u) = add (k ∷ p) u
+under k (add_at p u) = add_at (k ∷ p) u
 under k (remove p) = remove (k ∷ p)
 under k (replace p u) = replace (k ∷ p) u
 under k (move q p) = move (k ∷ q) (k ∷ p)
@@ -32,7 +32,7 @@ key_removals qs (pair_and k t ps) = cond (has_key k qs) (key_removals qs ps) (re
 
 -- a new value is added under the key; an old one is led to it by the operations
 abbrev pub member_operations : List ℕ → Option Tree → Tree → List Operation → List Operation
-member_operations k None u os = add (k ∷ []) u ∷ []
+member_operations k None u os = add_at (k ∷ []) u ∷ []
 member_operations k (Some t) u os = map (under k) os
 
 -- ---- elements
@@ -91,7 +91,7 @@ abbrev mutual
   pub element_operations : ℕ → List Tree → ℕ → Trees → List Operation
   element_operations i ts m no_trees = element_removals i ts
   element_operations i ts zero (tree_and u us) = element_removals i ts
-  element_operations i [] (suc m) (tree_and u us) = add (decimal i ∷ []) u ∷ element_operations (suc i) [] m us
+  element_operations i [] (suc m) (tree_and u us) = add_at (decimal i ∷ []) u ∷ element_operations (suc i) [] m us
   element_operations i (t ∷ ts) (suc m) (tree_and u us) = map (under (decimal i)) (operations_between t u) ++ element_operations (suc i) ts m us
 
 -- ---- laws

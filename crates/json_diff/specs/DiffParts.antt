@@ -2,7 +2,7 @@
 use Rattle.std.specs.Prelude.{List, [], ◌∷◌, Bool, false, ◌&&◌, Option, None, Some}
 use Rattle.json_grammar.specs.Tree.{Tree, list, pairs}
 use Rattle.json_patch.specs.Pointer.{ReferenceToken}
-use Rattle.json_patch.specs.Patch.{Operation, add}
+use Rattle.json_patch.specs.Patch.{Operation, add_at}
 use Rattle.json_patch.specs.Merge.{members_or_none}
 use Rattle.json_diff.specs.MergeDiff.{has_unique_keys, is_object}
 use Rattle.json_diff.specs.Diff.{is_array, operations_between, member_operations}
@@ -20,7 +20,7 @@ are_arrays t _ = false
 
 -- a value that is missing is added, and any other is led to the new one
 abbrev pub child_operations : Option Tree → Tree → List Operation
-child_operations None u = add [] u ∷ []
+child_operations None u = add_at [] u ∷ []
 child_operations (Some t) u = operations_between t u
 
 -- so at the value that the token references

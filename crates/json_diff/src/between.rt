@@ -15,8 +15,8 @@ ghost use Rattle.json_io.specs.Errors.{OnlyNoMemory};
 
 use crate::merge_between::has_unique_keys;
 use itoa::Buffer;
+use json_io::Result;
 use json_patch::push_escaped;
-use json_text::Result;
 use json_value::{ArrayView, Object, ObjectView, Pair, Text, Value, View};
 use std::alloc::Global;
 
@@ -34,7 +34,7 @@ fn operation_members(alloc: Global, name: &'static str, path: &str) -> Result<Ve
 }
 
 // Returns whether the two are the same.
-fn are_same(alloc: Global, first: View<'_>, second: View<'_>) -> Result<bool>
+fn are_equal(alloc: Global, first: View<'_>, second: View<'_>) -> Result<bool>
     ensures ok { IfOk result (λ b. b ≡ same (seen first.entry) (seen second.entry)) }
     ensures only { OnlyNoMemory result }
 {
@@ -75,7 +75,7 @@ fn common_back(alloc: Global, from: &[View<'_>], to: &[View<'_>]) -> Result<usiz
     let max = from.len().min(to.len());
     for n in 0..max {
         let (first, second) = (from[from.len() - 1 - n], to[to.len() - 1 - n]);
-        if !are_same(alloc, first, second)? {
+        if !are_equal(alloc, first, second)? {
             return Ok(n);
         }
     }
@@ -149,7 +149,7 @@ impl PatchWriter {
             (whole (seen from.entry) (seen to.entry))) }
         ensures only { OnlyNoMemory result }
     {
-        if are_same(self.alloc, from, to)? {
+        if are_equal(self.alloc, from, to)? {
             return Ok(());
         }
         self.push_value("replace", to)

@@ -12,8 +12,8 @@ ghost use Rattle.json_value.specs.Steps.{tree_or_null};
 ghost use Rattle.json_io.specs.Errors.{OnlyNoMemory};
 
 use json_doc::JsonType;
+use json_io::Result;
 use json_patch::single_member;
-use json_text::Result;
 use json_value::{Object, ObjectView, Pair, Text, Value, View};
 use std::alloc::Global;
 
@@ -80,7 +80,7 @@ fn is_kept(alloc: Global, old: Option<View<'_>>, new: View<'_>) -> Result<bool>
 }
 
 // Returns a null member for each key that the second object lacks.
-fn removed_members(alloc: Global, from: ObjectView<'_>, to: ObjectView<'_>) -> Result<Vec<Pair>>
+fn append_removals(alloc: Global, from: ObjectView<'_>, to: ObjectView<'_>) -> Result<Vec<Pair>>
     ensures ok { IfOk result (λ v. removals (list_pairs (members_seen to.entry))
         (list_pairs (members_seen from.entry)) ≡ map pair_of v.items) }
     ensures only { OnlyNoMemory result }
@@ -96,7 +96,7 @@ fn removed_members(alloc: Global, from: ObjectView<'_>, to: ObjectView<'_>) -> R
 }
 
 // Returns whether the value is null.
-fn is_null(value: View<'_>) -> bool
+fn is_null_view(value: View<'_>) -> bool
     ensures { result ≡ is_null (seen value.entry) }
 {
     value.get_type() == JsonType::Null
@@ -122,10 +122,10 @@ fn push_change(
     if is_kept(alloc, old, new)? {
         return Ok(true);
     }
-    if is_null(new) {
+    if is_null_view(new) {
         return Ok(false);
     }
-    match differing(alloc, old, new)? {
+    match changed_member(alloc, old, new)? {
         Some(patch) => {
             let key = Text::copy(alloc, key)?;
             members.push(Pair::new(key, patch))?;
@@ -169,7 +169,7 @@ fn members_between(
     ensures only { OnlyNoMemory result }
 {
     let mut members = match from {
-        Some(object) => removed_members(alloc, object, to)?,
+        Some(object) => append_removals(alloc, object, to)?,
         None => Vec::new(alloc),
     };
     if push_changes(&mut members, alloc, from, to)? {
@@ -203,7 +203,7 @@ fn object_patch(
 // Returns the patch that leads from a value, or from null if there is none, to another that
 // differs.
 #[cycle(merge_diff)]
-fn differing(alloc: Global, old: Option<View<'_>>, new: View<'_>) -> Result<Option<Value>>
+fn changed_member(alloc: Global, old: Option<View<'_>>, new: View<'_>) -> Result<Option<Value>>
     ensures ok { IfOk result (λ o. differing_patch (tree_or_null (option_map seen old.entry))
         (seen new.entry) ≡ option_map tree_of o) }
     ensures only { OnlyNoMemory result }
@@ -226,7 +226,7 @@ fn between(alloc: Global, from: &Value, to: &Value) -> Result<Option<Value>>
     if from.view().get_type() == JsonType::Object && *from == *to {
         return Ok(Some(Value::new_object()));
     }
-    differing(alloc, Some(from.view()), to.view())
+    changed_member(alloc, Some(from.view()), to.view())
 }
 
 /// Returns a JSON Merge Patch (RFC 7396) that leads from one value to the other: `apply_merge`

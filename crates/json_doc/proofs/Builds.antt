@@ -10,12 +10,12 @@ use Rattle.json_doc.specs.CellReadings.{cell_len}
 use Rattle.json_doc.specs.OpenCells.{link_of}
 use Rattle.json_doc.specs.Texts.{trees_count, pairs_count}
 use Rattle.json_doc.specs.Segment.{text_cell, node}
-use Rattle.json_doc.specs.Building.{Building, nothing, whole, in_array, in_object, in_pair}
+use Rattle.json_doc.specs.Building.{BuilderState, nothing, whole, in_array, in_object, in_pair}
 use Rattle.json_doc.specs.declared.cell.Cell.{Cell}
 use Rattle.json_doc.specs.declared.cell.Cell.TheVariants as cell
 use Rattle.json_doc.proofs.Segments.{trees_push, pairs_push, trees_push_tokens, pairs_push_tokens, trees_push_count, pairs_push_count, row_push, pair_row_push, row_some, pair_row_some, node_some, node_more, row_more, pair_row_more, text_more}
 
-pub builds_more : {bytes : List ℕ} {front : List Cell} {p n : ℕ} {s : TokenState} {ts : List Token} (extra : List ℕ) → IsUtf8 extra → Building bytes front p n s ts → Building (bytes ++ extra) front p n s ts
+pub builds_more : {bytes : List ℕ} {front : List Cell} {p n : ℕ} {s : TokenState} {ts : List Token} (extra : List ℕ) → IsUtf8 extra → BuilderState bytes front p n s ts → BuilderState (bytes ++ extra) front p n s ts
 builds_more extra u nothing = nothing
 builds_more {bytes = bytes} extra u (whole {cs = cs} t h) = whole t (node_more bytes extra u 0 cs t h)
 builds_more {bytes = bytes} extra u (in_array {front = front} cs us b v h) = in_array cs us (builds_more extra u b) v (row_more bytes extra u (length front + 1) cs us h)
@@ -23,7 +23,7 @@ builds_more {bytes = bytes} extra u (in_object {front = front} cs us b v h) = in
 builds_more {bytes = bytes} extra u (in_pair {front = front} {key = key} cs us k b v h n) = in_pair cs us k (builds_more extra u b) v (pair_row_more bytes extra u (length front + 1) cs us h) (text_more bytes key k extra u n)
 
 -- no more children are counted than there are cells
-pub count_within : {bytes : List ℕ} {front : List Cell} {p n : ℕ} {s : TokenState} {ts : List Token} → Building bytes front p n s ts → n ≤ length front
+pub count_within : {bytes : List ℕ} {front : List Cell} {p n : ℕ} {s : TokenState} {ts : List Token} → BuilderState bytes front p n s ts → n ≤ length front
 count_within nothing = omega arith
 count_within {bytes = bytes} (whole {cs = cs} t h) = node_some bytes 0 cs t h
 count_within {bytes = bytes} (in_array {front = front} {p = p} {n = n} cs us b v h) = omega (arith, length-append front (cell.Array p n ∷ cs), row_some bytes (length front + 1) cs us h)
@@ -32,14 +32,14 @@ count_within {bytes = bytes} (in_pair {front = front} {p = p} {n = n} {key = key
     omega (arith, length-append front (cell.Object p n ∷ (cs ++ key ∷ [])), length-append cs (key ∷ []), pair_row_some bytes (length front + 1) cs us h)
 
 module _ (bytes : List ℕ) where
-  built : (front front' : List Cell) (p n m : ℕ) (s : TokenState) (ts ts' : List Token) → Building bytes front' p m s ts' → front' ≡ front → m ≡ n → ts' ≡ ts → Building bytes front p n s ts
+  built : (front front' : List Cell) (p n m : ℕ) (s : TokenState) (ts ts' : List Token) → BuilderState bytes front' p m s ts' → front' ≡ front → m ≡ n → ts' ≡ ts → BuilderState bytes front p n s ts
   built front front' p n m s ts ts' b e k g =
-      subst (λ (x : List Cell). Building bytes x p n s ts) e (subst (λ (x : ℕ). Building bytes front' p x s ts) k (subst (λ (x : List Token). Building bytes front' p m s x) g b))
+      subst (λ (x : List Cell). BuilderState bytes x p n s ts) e (subst (λ (x : ℕ). BuilderState bytes front' p x s ts) k (subst (λ (x : List Token). BuilderState bytes front' p m s x) g b))
 
   -- ---- a finished value
 
   pub builds_value : {front : List Cell} {p n : ℕ} {s : TokenState} {ts : List Token} (seg : List Cell) (t : Tree)
-      → Building bytes front p n s ts → ValueMayCome s.expected → node bytes (length front) seg t → Building bytes (front ++ seg) p (n + 1) (state_after_value s) (ts ++ tokens t)
+      → BuilderState bytes front p n s ts → ValueMayCome s.expected → node bytes (length front) seg t → BuilderState bytes (front ++ seg) p (n + 1) (state_after_value s) (ts ++ tokens t)
   builds_value seg t nothing v h = whole t h
   builds_value seg t (whole u k) v h = absurd v
   builds_value seg t (in_array {front = front} {p = p} {n = n} {ts = ts} cs us b o r) v h =
@@ -59,7 +59,7 @@ module _ (bytes : List ℕ) where
   -- ---- a key
 
   pub builds_key : {front : List Cell} {p n : ℕ} {s : TokenState} {ts : List Token} (c : Cell) (k : List ℕ)
-      → Building bytes front p n s ts → NameMayCome s.expected → text_cell bytes c k → Building bytes (front ++ c ∷ []) p (n + 1) (after_token s (key_token k)) (ts ++ key_token k ∷ [])
+      → BuilderState bytes front p n s ts → NameMayCome s.expected → text_cell bytes c k → BuilderState bytes (front ++ c ∷ []) p (n + 1) (after_token s (key_token k)) (ts ++ key_token k ∷ [])
   builds_key c k nothing v h = absurd v
   builds_key c k (whole u g) v h = absurd v
   builds_key c k (in_array cs us b o r) v h = absurd v
@@ -70,12 +70,12 @@ module _ (bytes : List ℕ) where
 
   -- ---- a container begins
 
-  pub builds_array : {front : List Cell} {p n : ℕ} {s : TokenState} {ts : List Token} → Building bytes front p n s ts → ValueMayCome s.expected
-      → Building bytes (front ++ cell.Array p n ∷ []) (length front) 0 (after_token s (begin array)) (ts ++ begin array ∷ [])
+  pub builds_array : {front : List Cell} {p n : ℕ} {s : TokenState} {ts : List Token} → BuilderState bytes front p n s ts → ValueMayCome s.expected
+      → BuilderState bytes (front ++ cell.Array p n ∷ []) (length front) 0 (after_token s (begin array)) (ts ++ begin array ∷ [])
   builds_array b v = in_array [] no_trees b v refl
 
-  pub builds_object : {front : List Cell} {p n : ℕ} {s : TokenState} {ts : List Token} → Building bytes front p n s ts → ValueMayCome s.expected
-      → Building bytes (front ++ cell.Object p n ∷ []) (length front) 0 (after_token s (begin object)) (ts ++ begin object ∷ [])
+  pub builds_object : {front : List Cell} {p n : ℕ} {s : TokenState} {ts : List Token} → BuilderState bytes front p n s ts → ValueMayCome s.expected
+      → BuilderState bytes (front ++ cell.Object p n ∷ []) (length front) 0 (after_token s (begin object)) (ts ++ begin object ∷ [])
   builds_object b v = in_object [] no_pairs b v refl
 
 -- ---- a container ends
@@ -97,14 +97,14 @@ pub record Within (x : Token) (c : Cell) (bytes : List ℕ) (front : List Cell) 
   pub is_tokens : ts ++ x ∷ [] ≡ before ++ tokens tree
   pub takes_value : ValueMayCome state.expected
   pub is_after : state_after_value state ≡ after
-  pub built_outer : Building bytes outer around count state before
+  pub built_outer : BuilderState bytes outer around count state before
   pub finished : node bytes p (c ∷ cs) tree
 
-cells_behind : (front cs : List Cell) (c : Cell) → length (front ++ c ∷ cs) ≡ (length front + 1) + length cs
-cells_behind front cs c = omega (arith, length-append front (c ∷ cs))
+cells_after : (front cs : List Cell) (c : Cell) → length (front ++ c ∷ cs) ≡ (length front + 1) + length cs
+cells_after front cs c = omega (arith, length-append front (c ∷ cs))
 
 pub within_array : {bytes : List ℕ} {front : List Cell} {p n : ℕ} {s : TokenState} {ts : List Token}
-    → Building bytes front p n s ts → EndMayCome s.expected array → Within (end array) (cell.Array (length front) n) bytes front p (after_token s (end array)) ts
+    → BuilderState bytes front p n s ts → EndMayCome s.expected array → Within (end array) (cell.Array (length front) n) bytes front p (after_token s (end array)) ts
 within_array nothing e = absurd e
 within_array (whole t h) e = absurd e
 within_array (in_array {front = front} {p = p} {n = n} {s = s} {ts = ts} cs us b v h) e = record {
@@ -124,7 +124,7 @@ within_array (in_array {front = front} {p = p} {n = n} {s = s} {ts = ts} cs us b
   takes_value = v;
   is_after = refl;
   built_outer = b;
-  finished = (cs, ap (λ (k : ℕ). cell.Array k (trees_count us) ∷ cs) (cells_behind front cs (cell.Array p n)), h);
+  finished = (cs, ap (λ (k : ℕ). cell.Array k (trees_count us) ∷ cs) (cells_after front cs (cell.Array p n)), h);
 }
 within_array (in_object cs us b v h) e = absurd e
 within_array (in_pair cs us k b v h n) e = absurd e
@@ -133,7 +133,7 @@ half : (n : ℕ) → (2 * n) / 2 ≡ n
 half n = omega arith
 
 pub within_object : {bytes : List ℕ} {front : List Cell} {p n : ℕ} {s : TokenState} {ts : List Token}
-    → Building bytes front p n s ts → EndMayCome s.expected object → Within (end object) (cell.Object (length front) (n / 2)) bytes front p (after_token s (end object)) ts
+    → BuilderState bytes front p n s ts → EndMayCome s.expected object → Within (end object) (cell.Object (length front) (n / 2)) bytes front p (after_token s (end object)) ts
 within_object nothing e = absurd e
 within_object (whole t h) e = absurd e
 within_object (in_array cs us b v h) e = absurd e
@@ -154,7 +154,7 @@ within_object (in_object {front = front} {p = p} {n = n} {s = s} {ts = ts} cs us
   takes_value = v;
   is_after = refl;
   built_outer = b;
-  finished = (cs, ap (λ (k : ℕ). cell.Object k ((2 * pairs_count us) / 2) ∷ cs) (cells_behind front cs (cell.Object p n)) ∙ ap (λ (k : ℕ). cell.Object ((length front + 1) + length cs) k ∷ cs) (half (pairs_count us)), h);
+  finished = (cs, ap (λ (k : ℕ). cell.Object k ((2 * pairs_count us) / 2) ∷ cs) (cells_after front cs (cell.Object p n)) ∙ ap (λ (k : ℕ). cell.Object ((length front + 1) + length cs) k ∷ cs) (half (pairs_count us)), h);
 }
 within_object (in_pair cs us k b v h n) e = absurd e
 
@@ -163,9 +163,9 @@ pub closed_cells : (x : Token) (c : Cell) (bytes : List ℕ) (front : List Cell)
 closed_cells x c bytes front p after ts i = ap (λ (cells : List Cell). slice_set cells p c) i.is_front ∙ set_at i.outer i.open_cell i.cs c p i.is_place
 
 -- what a builder holds then
-pub ends : (x : Token) (c : Cell) (bytes : List ℕ) (front : List Cell) (p : ℕ) (after : TokenState) (ts : List Token) → (i : Within x c bytes front p after ts) → Building bytes (slice_set front p c) i.around (i.count + 1) after (ts ++ x ∷ [])
+pub ends : (x : Token) (c : Cell) (bytes : List ℕ) (front : List Cell) (p : ℕ) (after : TokenState) (ts : List Token) → (i : Within x c bytes front p after ts) → BuilderState bytes (slice_set front p c) i.around (i.count + 1) after (ts ++ x ∷ [])
 ends x c bytes front p after ts i =
     let h : node bytes (length i.outer) (c ∷ i.cs) i.tree = subst (λ (k : ℕ). node bytes k (c ∷ i.cs) i.tree) (sym i.is_place) i.finished in
-    let b = subst (λ (s : TokenState). Building bytes (i.outer ++ c ∷ i.cs) i.around (i.count + 1) s (i.before ++ tokens i.tree)) i.is_after (builds_value bytes (c ∷ i.cs) i.tree i.built_outer i.takes_value h) in
-    subst (λ (us : List Token). Building bytes (slice_set front p c) i.around (i.count + 1) after us) (sym i.is_tokens)
-    (subst (λ (cells : List Cell). Building bytes cells i.around (i.count + 1) after (i.before ++ tokens i.tree)) (sym (closed_cells x c bytes front p after ts i)) b)
+    let b = subst (λ (s : TokenState). BuilderState bytes (i.outer ++ c ∷ i.cs) i.around (i.count + 1) s (i.before ++ tokens i.tree)) i.is_after (builds_value bytes (c ∷ i.cs) i.tree i.built_outer i.takes_value h) in
+    subst (λ (us : List Token). BuilderState bytes (slice_set front p c) i.around (i.count + 1) after us) (sym i.is_tokens)
+    (subst (λ (cells : List Cell). BuilderState bytes cells i.around (i.count + 1) after (i.before ++ tokens i.tree)) (sym (closed_cells x c bytes front p after ts i)) b)

@@ -1,7 +1,7 @@
 -- There is room for each event of a text.
 use Rattle.std.proofs.Common.{◌≡◌, Bool, false, ℕ, ℤ, Option, Some, None, ◌+◌, ◌/◌, ◌≤◌, List, [], ◌∷◌, ◌++◌, length, ap, arith, length-append}
 use Rattle.json_grammar.specs.declared.Kind.{Kind}
-use Rattle.json_grammar.specs.declared.Spot.{Spot}
+use Rattle.json_grammar.specs.declared.ExpectedPart.{ExpectedPart}
 use Rattle.json_grammar.specs.Tree.{Tree, Token, null_token, boolean_token, num_token, text_token, begin, end, key_token, tokens}
 use Rattle.json_grammar.specs.Grammar.{is_text}
 use Rattle.json_grammar.specs.Place.{reading}
@@ -35,7 +35,7 @@ length-tokens_text-le (x ∷ ts) = let e = length-tokens_text-le ts in let f = l
 pub recorded_bytes : (v : DocumentVisitor) (ts : List Token) → Holds v ts → (visitor_state v).bytes ≤ bytes_of ts
 recorded_bytes v ts h = omega (arith, ap length h.texts, length-tokens_text-le ts)
 
-pub event_fits : (lossy : Bool) (v : DocumentVisitor) (p r : List ℕ) (c : List Kind) (w : Spot) (ts more : List Token) (x : Token) (t : Tree) (m : ℕ)
+pub event_fits : (lossy : Bool) (v : DocumentVisitor) (p r : List ℕ) (c : List Kind) (w : ExpectedPart) (ts more : List Token) (x : Token) (t : Tree) (m : ℕ)
     → (visitor_state v).full ≡ false → (length (p ++ r) + 1) / 2 ≤ (visitor_state v).cell_room → length (p ++ r) ≤ (visitor_state v).text_room
     → Holds v ts → reading lossy p c w ts → is_text lossy t (p ++ r) → tokens t ≡ ts ++ x ∷ more → m ≤ length r → Fits (visitor_state v) (token_nodes x) m
 event_fits lossy v p r c w ts more x t m full cells bytes held read is begins within =

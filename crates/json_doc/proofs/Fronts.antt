@@ -3,7 +3,7 @@ use Rattle.std.proofs.Common.{◌≡◌, ◌∙◌, ◌⊎◌, inl, inr, Bool, �
 use Rattle.std.proofs.lemmas.List.{nil_from_length}
 use Rattle.json_grammar.specs.Tree.{Tree, depth, null, boolean, num, text, list, pairs, Token, tokens}
 use Rattle.json_grammar.specs.Place.{reading}
-use Rattle.json_grammar.specs.declared.Spot.TheVariants.{Done as done}
+use Rattle.json_grammar.specs.declared.ExpectedPart.TheVariants.{Done as done}
 use Rattle.json_grammar.specs.Fault.{reads}
 use Rattle.json_grammar.proofs.Closing.{whole_text}
 use Rattle.json_io.specs.declared.error.Error.{Error}
@@ -17,7 +17,7 @@ use Rattle.json_text.specs.declared.event.Event.{Event}
 use Rattle.json_text.specs.declared.event.Event.TheVariants as event
 use Rattle.json_io.specs.Errors.{no_memory}
 use Rattle.json_text.specs.Faults.{ValueFaultFrom}
-use Rattle.json_text.specs.Parsing.{ParserState, input, taken, HasGiven, IsWhole, HasRead, SameInput, Goes}
+use Rattle.json_text.specs.Parsing.{ParserState, input, consumed, HasGiven, IsWhole, HasRead, SameInput, AdvancesTo}
 use Rattle.json_text.proofs.ValueFaults.{value_fault_of}
 use Rattle.json_doc.specs.OneValue.{HandedOut, ReadsValue, RefusesValue}
 use Rattle.json_doc.specs.Recorded.{Holds}
@@ -48,7 +48,7 @@ input_is old p same = ap (λ i. drop i p.text) same.start ∙ ap (drop old.start
 
 -- ---- the first event
 
-pub first_out : (p q : ParserState) (e : Event) → HasGiven p [] → (e ≡ event.End → IsWhole p) → Goes p e q → q.failure ≡ None → HandedOut q e
+pub first_out : (p q : ParserState) (e : Event) → HasGiven p [] → (e ≡ event.End → IsWhole p) → AdvancesTo p e q → q.failure ≡ None → HandedOut q e
 first_out p q e fresh whole goes unfailed =
     let x = goes_on p q e (λ is. fresh_not_whole p fresh (whole is)) goes [] fresh in
     record { token = x.0; means = x.1; begins = one_begins x.0 (given_begins q (x.0 ∷ []) x.2); before = []; given = x.2; unfailed = unfailed }
@@ -58,26 +58,26 @@ first_out p q e fresh whole goes unfailed =
 -- after the tokens of a tree the parser is done
 tree_whole : (p : ParserState) (t : Tree) → HasGiven p (tokens t) → IsWhole p
 tree_whole p t h =
-    let e = whole_place p.spot p.open_kinds (ap (λ (s : TokenState). s.expected) (sym (place_state h.given.at) ∙ after_tree initial_state t)) in
+    let e = whole_place p.expected p.open_kinds (ap (λ (s : TokenState). s.expected) (sym (place_state h.given.at) ∙ after_tree initial_state t)) in
     (e.0, ap length e.1)
 
 -- the tokens handed out to the end of the value are its own
-front_given : (old p q : ParserState) (e : Event) (t : Tree) → HasGiven old [] → (e ≡ event.End → IsWhole old) → Goes old e p → ReadsValue p e t q → HasGiven q (tokens t)
+front_given : (old p q : ParserState) (e : Event) (t : Tree) → HasGiven old [] → (e ≡ event.End → IsWhole old) → AdvancesTo old e p → ReadsValue p e t q → HasGiven q (tokens t)
 front_given old p q e t fresh whole goes r =
     let x = goes_on old p e (λ is. fresh_not_whole old fresh (whole is)) goes [] fresh in
     r.goes [] (subst (λ y. HasGiven p (y ∷ [])) (means_one e x.0 r.token x.1 r.means) x.2)
 
 -- the tree of the value, which was read as far as it goes
-pub front_read : (old p q : ParserState) (e : Event) (v : DocumentVisitor) → HasGiven old [] → (e ≡ event.End → IsWhole old) → Goes old e p → SameInput old p → SameInput p q
+pub front_read : (old p q : ParserState) (e : Event) (v : DocumentVisitor) → HasGiven old [] → (e ≡ event.End → IsWhole old) → AdvancesTo old e p → SameInput old p → SameInput p q
     → (¬ (IsWhole old) → IsWhole p → HasRead p) → ((IsWhole p → HasRead p) → IsWhole q → HasRead q) → (t : Tree) × ReadsValue p e t q × Holds v (tokens t)
-    → (t : Tree) × reads old.lossy (input old) t (taken q) × (depth t ≤ old.limit) × Holds v (tokens t)
+    → (t : Tree) × reads old.lossy (input old) t (consumed q) × (depth t ≤ old.limit) × Holds v (tokens t)
 front_read old p q e v fresh whole goes same on first more (t, r, held) =
     let given = front_given old p q e t fresh whole goes r in
     let u = more (first (fresh_not_whole old fresh)) (tree_whole q t given) (tokens t) given in
-    (u.0, subst (λ (m : Bool). reads m (input old) u.0 (taken q)) (on.lossy ∙ same.lossy) (subst (λ (y : List ℕ). reads q.lossy y u.0 (taken q)) (input_is p q on ∙ input_is old p same) u.1), subst (λ n. depth u.0 ≤ n) (on.limit ∙ same.limit) u.3, subst (λ (us : List Token). Holds v us) u.2 held)
+    (u.0, subst (λ (m : Bool). reads m (input old) u.0 (consumed q)) (on.lossy ∙ same.lossy) (subst (λ (y : List ℕ). reads q.lossy y u.0 (consumed q)) (input_is p q on ∙ input_is old p same) u.1), subst (λ n. depth u.0 ≤ n) (on.limit ∙ same.limit) u.3, subst (λ (us : List Token). Holds v us) u.2 held)
 
 -- after it the parser is done
-pub front_whole : (old p q : ParserState) (e : Event) (v : DocumentVisitor) → HasGiven old [] → (e ≡ event.End → IsWhole old) → Goes old e p → (t : Tree) × ReadsValue p e t q × Holds v (tokens t) → IsWhole q × (q.failure ≡ None)
+pub front_whole : (old p q : ParserState) (e : Event) (v : DocumentVisitor) → HasGiven old [] → (e ≡ event.End → IsWhole old) → AdvancesTo old e p → (t : Tree) × ReadsValue p e t q × Holds v (tokens t) → IsWhole q × (q.failure ≡ None)
 front_whole old p q e v fresh whole goes (t, r, held) = (tree_whole q t (front_given old p q e t fresh whole goes r), r.unfailed)
 
 -- what is refused is kept

@@ -24,11 +24,11 @@ pub raw_text : (l : List ℕ) → integer_in l ≡ None → token_text (num_toke
 raw_text l e = ap (λ (o : Option ℤ). raw_part o l) e
 
 -- the cell of an integer, and that of every other number
-pub integer_stands : (bytes l : List ℕ) (z : ℤ) → integer_in l ≡ Some z → l ≡ signed_decimal z → number_cell (integer_in l) bytes (integer_cell z) l
-integer_stands bytes l z e text = subst (λ (o : Option ℤ). number_cell o bytes (integer_cell z) l) (sym e) (refl, text)
+pub integer_is_there : (bytes l : List ℕ) (z : ℤ) → integer_in l ≡ Some z → l ≡ signed_decimal z → number_cell (integer_in l) bytes (integer_cell z) l
+integer_is_there bytes l z e text = subst (λ (o : Option ℤ). number_cell o bytes (integer_cell z) l) (sym e) (refl, text)
 
-pub raw_stands : (bytes l : List ℕ) (c : Cell) → integer_in l ≡ None → number_cell None bytes c l → number_cell (integer_in l) bytes c l
-raw_stands bytes l c e h = subst (λ (o : Option ℤ). number_cell o bytes c l) (sym e) h
+pub raw_is_there : (bytes l : List ℕ) (c : Cell) → integer_in l ≡ None → number_cell None bytes c l → number_cell (integer_in l) bytes c l
+raw_is_there bytes l c e h = subst (λ (o : Option ℤ). number_cell o bytes c l) (sym e) h
 
 -- ---- what is recorded of a literal by value is the literal
 

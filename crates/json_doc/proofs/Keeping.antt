@@ -10,17 +10,17 @@ use Rattle.json_grammar.proofs.OpenKeys.{keys_append, repeat_one, repeats_tree}
 use Rattle.json_grammar.proofs.Pieces.{piece_length}
 use Rattle.json_grammar.proofs.RulesReader.{key_refused, fault_stands}
 use Rattle.json_grammar.specs.declared.Kind.{Kind}
-use Rattle.json_grammar.specs.declared.Spot.{Spot}
+use Rattle.json_grammar.specs.declared.ExpectedPart.{ExpectedPart}
 use Rattle.json_grammar.specs.Place.{TakesKey, reading}
-use Rattle.json_grammar.specs.Given.{piece, NamesTold}
+use Rattle.json_grammar.specs.Given.{piece, NamesReturned}
 use Rattle.json_grammar.specs.Needs.{IsGap}
 use Rattle.json_grammar.specs.Fault.{duplicate_key, fault}
 use Rattle.json_grammar.specs.Repeated.{keys_from, RepeatsAt, TokensRepeat}
 use Rattle.json_grammar.specs.Rules.{Rules, fits, fault_with}
-use Rattle.json_text.proofs.DueTokens.{names_before_due, name_told}
-use Rattle.json_text.proofs.OneFaultAt.{stands, stood}
-use Rattle.json_text.proofs.Stands.{stood_at}
-use Rattle.json_text.specs.Standing.{Stood}
+use Rattle.json_text.proofs.DueTokens.{names_before_due, name_reported}
+use Rattle.json_text.proofs.OneFaultAt.{is_there, reader_at}
+use Rattle.json_text.proofs.ReaderSteps.{stood_at}
+use Rattle.json_text.specs.Readers.{ReaderAt}
 use Rattle.json_io.specs.declared.error.Error.{Error}
 use Rattle.json_io.specs.declared.error.ErrorCode.{ErrorCode}
 use Rattle.json_io.specs.declared.error.ErrorCode.TheVariants as code
@@ -31,7 +31,7 @@ use Rattle.json_text.specs.declared.event.Event.TheVariants as event
 use Rattle.json_io.specs.Positions.{place_at}
 use Rattle.json_text.specs.Events.{Means, raw_size, event_bytes}
 use Rattle.json_text.specs.Faults.{IsFault, IsFaultWith, FaultWithAt}
-use Rattle.json_text.specs.Parsing.{ParserState, input, HasGiven, SameInput, Goes, TakesToken, IsTight, IsDue}
+use Rattle.json_text.specs.Parsing.{ParserState, input, HasGiven, SameInput, AdvancesTo, TakesToken, IsTight, IsDue}
 use Rattle.json_grammar.specs.TokenStates.{BeginsTree}
 use Rattle.json_doc.specs.State.{VisitorState}
 use Rattle.json_doc.specs.Recorded.{visitor_state, Holds, SameRoom}
@@ -65,7 +65,7 @@ keeps_start most p v b reads start limit strict gave unfailed fresh held =
 
 -- ---- an event
 
-pub goes_on : (p q : ParserState) (e : Event) → e ≢ event.End → Goes p e q → (ts : List Token) → HasGiven p ts → (x : Token) × Means e x × HasGiven q (ts ++ x ∷ [])
+pub goes_on : (p q : ParserState) (e : Event) → e ≢ event.End → AdvancesTo p e q → (ts : List Token) → HasGiven p ts → (x : Token) × Means e x × HasGiven q (ts ++ x ∷ [])
 goes_on p q event.Null n g = g
 goes_on p q (event.Bool v) n g = g
 goes_on p q (event.Number l) n g = g
@@ -100,14 +100,14 @@ recorded_within p v ts h held =
     let order = h.order in
     omega (arith, length-take h.base (input p))
 
-module _ {limit : ℕ} {p q : ParserState} {v : DocumentVisitor} {b : List ℕ} {ts : List Token} {e : Event} (k : AreInStep limit p v b ts) (other : e ≢ event.End) (goes : Goes p e q) (tight : IsTight p e q) (same : SameInput p q) where
+module _ {limit : ℕ} {p q : ParserState} {v : DocumentVisitor} {b : List ℕ} {ts : List Token} {e : Event} (k : AreInStep limit p v b ts) (other : e ≢ event.End) (goes : AdvancesTo p e q) (tight : IsTight p e q) (same : SameInput p q) where
   pub next_token : (x : Token) × Means e x × HasGiven q (ts ++ x ∷ [])
   next_token = goes_on p q e other goes ts k.gave
 
   pub next_number : EventIsNumber e
   next_number =
       let h = next_token.2.given.at in
-      event_number e next_token.0 (take next_token.2.base (input q)) q.open_kinds q.spot ts next_token.1 h
+      event_number e next_token.0 (take next_token.2.base (input q)) q.open_kinds q.expected ts next_token.1 h
 
   pub next_begins : BeginsTree (ts ++ next_token.0 ∷ [])
   next_begins = given_begins q (ts ++ next_token.0 ∷ []) next_token.2
@@ -152,7 +152,7 @@ not_full true h = absurd (h refl)
 not_full false h = refl
 
 -- the builder holds the tree of the text
-pub keeps_end : (rules : Rules) (p q : ParserState) (v : DocumentVisitor) (o : OpenKeys) (b : List ℕ) (ts : List Token) → AreInStep rules.limit p v b ts → Differ rules o ts → Goes p event.End q → (t : Tree) × is_text false t b × fits t rules × Holds v (tokens t)
+pub keeps_end : (rules : Rules) (p q : ParserState) (v : DocumentVisitor) (o : OpenKeys) (b : List ℕ) (ts : List Token) → AreInStep rules.limit p v b ts → Differ rules o ts → AdvancesTo p event.End q → (t : Tree) × is_text false t b × fits t rules × Holds v (tokens t)
 keeps_end rules p q v o b ts k d g =
     let whole = g.1 ts k.gave in
     let t = whole.0 in
@@ -171,13 +171,13 @@ fault_fails rules b code.NoMemory place.None h = tt
 fault_fails rules b c at h = h
 
 -- the parser's place in the whole text
-stood_in : (p : ParserState) (limit : ℕ) (b : List ℕ) (ts : List Token) → p.text ≡ b → p.start ≡ 0 → p.limit ≡ limit → p.lossy ≡ false → HasGiven p ts → Stood false limit b p.index p.open_kinds p.spot ts
-stood_in p limit b ts reads start most strict h =
+reader_at_in : (p : ParserState) (limit : ℕ) (b : List ℕ) (ts : List Token) → p.text ≡ b → p.start ≡ 0 → p.limit ≡ limit → p.lossy ≡ false → HasGiven p ts → ReaderAt false limit b p.index p.open_kinds p.expected ts
+reader_at_in p limit b ts reads start most strict h =
     let index : p.index - p.start ≡ p.index = omega arith in
     let here : drop p.start p.text ≡ b = ap (λ (i : ℕ). drop i p.text) start ∙ reads in
-    subst (λ m. Stood m limit b p.index p.open_kinds p.spot ts) strict
-    (subst (λ n. Stood p.lossy n b p.index p.open_kinds p.spot ts) most
-    (subst (λ y. Stood p.lossy p.limit y p.index p.open_kinds p.spot ts) here (subst (λ i. Stood p.lossy p.limit (drop p.start p.text) i p.open_kinds p.spot ts) index h)))
+    subst (λ m. ReaderAt m limit b p.index p.open_kinds p.expected ts) strict
+    (subst (λ n. ReaderAt p.lossy n b p.index p.open_kinds p.expected ts) most
+    (subst (λ y. ReaderAt p.lossy p.limit y p.index p.open_kinds p.expected ts) here (subst (λ i. ReaderAt p.lossy p.limit (drop p.start p.text) i p.open_kinds p.expected ts) index h)))
 
 -- the parser's fault is the one by the rules
 pub refused_fails : (rules : Rules) (p : ParserState) (v : DocumentVisitor) (o : OpenKeys) (b : List ℕ) (ts : List Token) (e : Error) → AreInStep rules.limit p v b ts → Differ rules o ts → IsDue p e → ReadingFailsWith rules b e.code e.place
@@ -185,17 +185,17 @@ refused_fails rules p v o b ts e k d due =
     let index : p.index - p.start ≡ p.index = let z = k.start in omega arith in
     let here : drop p.start p.text ≡ b = ap (λ (i : ℕ). drop i p.text) k.start ∙ k.reads in
     let zeroth : p.start + due.offset ≡ due.offset = let z = k.start in omega arith in
-    let stood_here = stood_in p rules.limit b ts k.reads k.start k.limit k.strict k.gave in
-    let names : NamesTold false b p.index due.offset =
-    subst (λ m. NamesTold m b p.index due.offset) k.strict (subst (λ i. NamesTold p.lossy b i due.offset) index (subst (λ y. NamesTold p.lossy y (p.index - p.start) due.offset) here (names_before_due p e ts due k.gave))) in
+    let stood_here = reader_at_in p rules.limit b ts k.reads k.start k.limit k.strict k.gave in
+    let names : NamesReturned false b p.index due.offset =
+    subst (λ m. NamesReturned m b p.index due.offset) k.strict (subst (λ i. NamesReturned p.lossy b i due.offset) index (subst (λ y. NamesReturned p.lossy y (p.index - p.start) due.offset) here (names_before_due p e ts due k.gave))) in
     let fault_here : IsFault false rules.limit b e.code due.offset =
     subst (λ m. IsFault m rules.limit b e.code due.offset) k.strict (subst (λ n. IsFault p.lossy n b e.code due.offset) k.limit (subst (λ y. IsFault p.lossy p.limit y e.code due.offset) here due.fault)) in
-    let s = stands (λ row. fault false rules.limit b row due.offset) e.code fault_here in
-    let by_rules = fault_stands false rules b p.index p.open_kinds p.spot ts s.row due.offset (stood_at false rules.limit b p.index p.open_kinds p.spot ts stood_here) (λ u. (d u).0) (λ u. names) s.holds in
+    let s = is_there (λ row. fault false rules.limit b row due.offset) e.code fault_here in
+    let by_rules = fault_stands false rules b p.index p.open_kinds p.expected ts s.row due.offset (stood_at false rules.limit b p.index p.open_kinds p.expected ts stood_here) (λ u. (d u).0) (λ u. names) s.holds in
     fault_fails rules b e.code e.place (
       due.offset,
       due.place ∙ ap (place_at p.text) zeroth ∙ ap (λ y. place_at y due.offset) k.reads,
-      subst (λ c. IsFaultWith false rules b c due.offset) (sym s.same) (stood (λ row. fault_with false rules b row due.offset) s.row by_rules),
+      subst (λ c. IsFaultWith false rules b c due.offset) (sym s.same) (reader_at (λ row. fault_with false rules b row due.offset) s.row by_rules),
     )
 
 -- ---- names that differ
@@ -217,7 +217,7 @@ differ_on rules old new ts x t d u =
 
 -- a name that repeats is refused at its opening quotation mark
 pub repeated_fails : (rules : Rules) (p q : ParserState) (v : DocumentVisitor) (o : OpenKeys) (b : List ℕ) (ts : List Token) (e : Event) (error : Error)
-    → rules.unique ≡ true → AreInStep rules.limit p v b ts → Differ rules o ts → Goes p e q → IsTight p e q → SameInput p q
+    → rules.unique ≡ true → AreInStep rules.limit p v b ts → Differ rules o ts → AdvancesTo p e q → IsTight p e q → SameInput p q
     → RefusesName o e b q.index error → ReadingFailsWith rules b error.code error.place
 repeated_fails rules p q v o b ts e error u k d goes tight same (inl is) = subst (λ (x : Error). ReadingFailsWith rules b x.code x.place) (sym is) tt
 repeated_fails rules p q v o b ts e error u k d goes tight same (inr (n, is, repeats, told)) =
@@ -230,7 +230,7 @@ repeated_fails rules p q v o b ts e error u k d goes tight same (inr (n, is, rep
     t = tight_on p q (event.Key n) (λ f. absurd (cc)) (subst (λ x. IsTight p x q) is tight)
 
     next : (x : Token) × Means (event.Key n) x × HasGiven q (ts ++ x ∷ [])
-    next = goes_on p q (event.Key n) (λ f. absurd (cc)) (subst (λ x. Goes p x q) is goes) ts k.gave
+    next = goes_on p q (event.Key n) (λ f. absurd (cc)) (subst (λ x. AdvancesTo p x q) is goes) ts k.gave
 
     s : List ℕ
     s = next.1.0
@@ -257,11 +257,11 @@ repeated_fails rules p q v o b ts e error u k d goes tight same (inr (n, is, rep
         let size : length (34 ∷ (n.raw.now ++ 34 ∷ [])) ≡ length n.raw.now + 2 = omega (arith, length-append n.raw.now (34 ∷ [])) in
         omega (arith, within, piece_length b t.begins q.index (omega arith) within)
 
-    stood_p : Stood false rules.limit b p.index p.open_kinds p.spot ts
-    stood_p = stood_in p rules.limit b ts k.reads k.start k.limit k.strict k.gave
+    stood_p : ReaderAt false rules.limit b p.index p.open_kinds p.expected ts
+    stood_p = reader_at_in p rules.limit b ts k.reads k.start k.limit k.strict k.gave
 
-    stood_q : Stood false rules.limit b q.index q.open_kinds q.spot (ts ++ key_token s ∷ [])
-    stood_q = stood_in q rules.limit b (ts ++ key_token s ∷ []) whole (same.start ∙ k.start) (same.limit ∙ k.limit) (same.lossy ∙ k.strict) given
+    stood_q : ReaderAt false rules.limit b q.index q.open_kinds q.expected (ts ++ key_token s ∷ [])
+    stood_q = reader_at_in q rules.limit b (ts ++ key_token s ∷ []) whole (same.start ∙ k.start) (same.limit ∙ k.limit) (same.lossy ∙ k.strict) given
 
     gap : IsGap (piece b p.index t.begins)
     gap = subst (λ y. IsGap (piece y p.index t.begins)) whole t.gap
@@ -269,8 +269,8 @@ repeated_fails rules p q v o b ts e error u k d goes tight same (inr (n, is, rep
     string_at : string false s (piece b t.begins q.index)
     string_at = (n.raw.now, bytes, strictly)
 
-    there : (c : List Kind) × (w : Spot) × reading false (take t.begins b) c w ts × TakesKey w
-    there = let l = t.order in name_told false rules.limit rules.limit b p.index t.begins q.index p.open_kinds q.open_kinds p.spot q.spot ts s stood_p l.0 (omega arith) within gap string_at stood_q
+    there : (c : List Kind) × (w : ExpectedPart) × reading false (take t.begins b) c w ts × TakesKey w
+    there = let l = t.order in name_reported false rules.limit rules.limit b p.index t.begins q.index p.open_kinds q.open_kinds p.expected q.expected ts s stood_p l.0 (omega arith) within gap string_at stood_q
 
     refused : fault_with false rules b duplicate_key t.begins
     refused = let l = t.order in key_refused false rules b t.begins q.index there.0 there.1 ts s u there.2 there.3 (omega arith) within string_at stood_p.depth (d u).0 (repeats s (keys_from [] ts) spelled (d u).1)

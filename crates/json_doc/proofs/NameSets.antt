@@ -20,7 +20,7 @@ use Rattle.std.proofs.lemmas.List.Folds.{list_any-append}
 use Rattle.std.proofs.lemmas.Slice.Eq.{bytes_eq-Decides}
 use Rattle.json_grammar.specs.Repeated.{Keys, innermost_keys, outer_keys, with_key}
 use Rattle.json_grammar.proofs.Lists.{cons_nil, none_behind}
-use Rattle.json_doc.specs.OpenNames.{NameList, NameSet, front_of, row_has, set_has, names_have, AreNames, Around, nothing, around, NamesStand}
+use Rattle.json_doc.specs.OpenNames.{NameList, NameSet, front_of, row_has, set_has, names_have, AreNames, Around, nothing, around, OpenNamesHeld}
 use Rattle.json_doc.specs.declared.open_keys.OuterKeys.{OuterKeys}
 
 -- ---- the names of one container
@@ -151,24 +151,24 @@ some_around _ _ _ (around {all = rest} row o ks a n m) l = (ks, rest, refl)
 
 -- ---- event by event
 
-pub stand_start : (few : NameList) (m : NameSet) (outer : List OuterKeys) → few ≡ [] → m.keys ≡ [] → outer ≡ [] → NamesStand few 0 m outer []
-stand_start few m outer f e g = rw (f, g) (record { within = omega arith; here = no_names m e; outside = nothing })
+pub state_start : (few : NameList) (m : NameSet) (outer : List OuterKeys) → few ≡ [] → m.keys ≡ [] → outer ≡ [] → OpenNamesHeld few 0 m outer []
+state_start few m outer f e g = rw (f, g) (record { within = omega arith; here = no_names m e; outside = nothing })
 
-pub stand_began : (few : NameList) (start len : ℕ) (many none : NameSet) (outer : List OuterKeys) (o : OuterKeys) (all : List Keys)
-    → NamesStand few start many outer all → none.keys ≡ [] → o.start ≡ start → o.many ≡ many → len ≡ length few
-    → NamesStand few len none (outer ++ o ∷ []) ([] ∷ all)
-stand_began few start len many none outer o all h e a b l = record {
+pub state_began : (few : NameList) (start len : ℕ) (many none : NameSet) (outer : List OuterKeys) (o : OuterKeys) (all : List Keys)
+    → OpenNamesHeld few start many outer all → none.keys ≡ [] → o.start ≡ start → o.many ≡ many → len ≡ length few
+    → OpenNamesHeld few len none (outer ++ o ∷ []) ([] ∷ all)
+state_began few start len many none outer o all h e a b l = record {
   within = omega arith;
   here = subst (λ r. AreNames r none []) (sym (drop_all len few (omega arith))) (no_names none e);
   outside = subst (λ r. Around r (outer ++ o ∷ []) ([] ∷ all)) (take-append-drop start few ∙ sym (take_all len few (omega arith)))
       (around (drop start few) o [] h.outside (let w = h.within in omega (arith, length-take start few)) (subst (λ m. AreNames (drop start few) m (innermost_keys all)) (sym b) h.here));
 }
 
-pub stand_ended : (few : NameList) (start : ℕ) (many : NameSet) (os outer : List OuterKeys) (o : OuterKeys) (all : List Keys)
-    → NamesStand few start many os all → os ≡ outer ++ o ∷ [] → NamesStand (take start few) o.start o.many outer (outer_keys all)
-stand_ended few start many os outer o all h e = by (left (take start few) os outer o all h.outside e)
+pub state_ended : (few : NameList) (start : ℕ) (many : NameSet) (os outer : List OuterKeys) (o : OuterKeys) (all : List Keys)
+    → OpenNamesHeld few start many os all → os ≡ outer ++ o ∷ [] → OpenNamesHeld (take start few) o.start o.many outer (outer_keys all)
+state_ended few start many os outer o all h e = by (left (take start few) os outer o all h.outside e)
   where
-    by : Left (take start few) outer o all → NamesStand (take start few) o.start o.many outer (outer_keys all)
+    by : Left (take start few) outer o all → OpenNamesHeld (take start few) o.start o.many outer (outer_keys all)
     by l = rw (l.all_is, l.few_is) (record {
       within = let s = l.starts in omega (arith, length-append l.front l.row);
       here = subst (λ r. AreNames r o.many (innermost_keys l.rest)) (sym (ap (λ n. drop n (l.front ++ l.row)) l.starts ∙ drop_front l.front l.row)) l.names;
@@ -184,16 +184,16 @@ stand_ended few start many os outer o all h e = by (left (take start few) os out
         take_front (x ∷ a) b = ap (λ z. x ∷ z) (take_front a b)
 
 -- with nothing open nothing ends
-pub stand_none : (few : NameList) (start : ℕ) (many : NameSet) (outer outer' : List OuterKeys) (all : List Keys) → NamesStand few start many outer all → outer ≡ [] → outer' ≡ [] → NamesStand few start many outer' (outer_keys all)
-stand_none few start many outer outer' all h e f =
+pub state_none : (few : NameList) (start : ℕ) (many : NameSet) (outer outer' : List OuterKeys) (all : List Keys) → OpenNamesHeld few start many outer all → outer ≡ [] → outer' ≡ [] → OpenNamesHeld few start many outer' (outer_keys all)
+state_none few start many outer outer' all h e f =
     let a = nothing_around (take start few) outer all h.outside e in
-    subst (λ z. NamesStand few start many z (outer_keys all)) (e ∙ sym f) (subst (λ z. NamesStand few start many outer z) (a ∙ sym (ap outer_keys a)) h)
+    subst (λ z. OpenNamesHeld few start many z (outer_keys all)) (e ∙ sym f) (subst (λ z. OpenNamesHeld few start many outer z) (a ∙ sym (ap outer_keys a)) h)
 
 -- and no name repeats
-pub stand_outside : (few : NameList) (start : ℕ) (many : NameSet) (outer : List OuterKeys) (all : List Keys) (t : List ℕ) → NamesStand few start many outer all → outer ≡ []
-    → (IsTrue false ↔ Contains (innermost_keys all) t) × (false ≡ false → NamesStand few start many outer (with_key all t))
-stand_outside few start many outer all t h e =
-    subst (λ z. NamesStand few start many outer z → (IsTrue false ↔ Contains (innermost_keys z) t) × (false ≡ false → NamesStand few start many outer (with_key z t)))
+pub state_outside : (few : NameList) (start : ℕ) (many : NameSet) (outer : List OuterKeys) (all : List Keys) (t : List ℕ) → OpenNamesHeld few start many outer all → outer ≡ []
+    → (IsTrue false ↔ Contains (innermost_keys all) t) × (false ≡ false → OpenNamesHeld few start many outer (with_key all t))
+state_outside few start many outer all t h e =
+    subst (λ z. OpenNamesHeld few start many outer z → (IsTrue false ↔ Contains (innermost_keys z) t) × (false ≡ false → OpenNamesHeld few start many outer (with_key z t)))
     (sym (nothing_around (take start few) outer all h.outside e))
     (λ k. ((λ g. absurd (cc), λ c. let l = c.1 in absurd (omega arith)), λ g. k)) h
 
@@ -205,16 +205,16 @@ twice true a e = ap not e
 twice false a e = ap not e
 
 -- a name that is not in the row is there exactly where the set has it
-pub told_by_set : (few : NameList) (many : NameSet) (ks : Keys) (s : List ℕ) (row added : Bool) → AreNames few many ks → row ≡ row_has few s → row ≡ false → added ≡ not (set_has many s) → IsTrue (not added) ↔ Contains ks s
-told_by_set few many ks s row added a r f e = subst (λ b. IsTrue b ↔ Contains ks s) (ap (λ b. b || set_has many s) (sym r ∙ f) ∙ sym (twice (set_has many s) added e)) (a s)
+pub reported_by_set : (few : NameList) (many : NameSet) (ks : Keys) (s : List ℕ) (row added : Bool) → AreNames few many ks → row ≡ row_has few s → row ≡ false → added ≡ not (set_has many s) → IsTrue (not added) ↔ Contains ks s
+reported_by_set few many ks s row added a r f e = subst (λ b. IsTrue b ↔ Contains ks s) (ap (λ b. b || set_has many s) (sym r ∙ f) ∙ sym (twice (set_has many s) added e)) (a s)
 
 pub nothing_there : {X : Type 0} (xs : List X) → length xs ≡ 0 → xs ≡ []
 nothing_there [] e = refl
 nothing_there (x ∷ xs) e = absurd (omega arith)
 
-pub stand_plain : (few : NameList) (start : ℕ) (many : NameSet) (outer : List OuterKeys) (all : List Keys) (n : Bor (List ℕ))
-    → NamesStand few start many outer all → 0 < length outer → NamesStand (few ++ n ∷ []) start many outer (with_key all n.now)
-stand_plain few start many outer all n h l =
+pub state_plain : (few : NameList) (start : ℕ) (many : NameSet) (outer : List OuterKeys) (all : List Keys) (n : Bor (List ℕ))
+    → OpenNamesHeld few start many outer all → 0 < length outer → OpenNamesHeld (few ++ n ∷ []) start many outer (with_key all n.now)
+state_plain few start many outer all n h l =
     let some = some_around (take start few) outer all h.outside l in
     let w = h.within in
     record {
@@ -223,10 +223,10 @@ stand_plain few start many outer all n h l =
       outside = subst (λ r. Around r outer (with_key all n.now)) (sym (take-append-le start few (n ∷ []) w)) (around_same (take start few) outer all n.now h.outside);
     }
 
-pub stand_set : (few : NameList) (start : ℕ) (many more : NameSet) (outer : List OuterKeys) (all : List Keys) (t : List ℕ)
-    → NamesStand few start many outer all → 0 < length outer → ((s : List ℕ) → set_has more s ≡ cond (bytes_eq t s) true (set_has many s))
-    → NamesStand few start more outer (with_key all t)
-stand_set few start many more outer all t h l e =
+pub state_set : (few : NameList) (start : ℕ) (many more : NameSet) (outer : List OuterKeys) (all : List Keys) (t : List ℕ)
+    → OpenNamesHeld few start many outer all → 0 < length outer → ((s : List ℕ) → set_has more s ≡ cond (bytes_eq t s) true (set_has many s))
+    → OpenNamesHeld few start more outer (with_key all t)
+state_set few start many more outer all t h l e =
     let some = some_around (take start few) outer all h.outside l in
     record {
       within = h.within;

@@ -1,7 +1,7 @@
 -- The literal of an event that was read is a number.
 use Rattle.std.proofs.Common.{◌≡◌, Bool, ℕ, List, [], ◌∷◌, ◌++◌, subst}
 use Rattle.json_grammar.specs.declared.Kind.{Kind}
-use Rattle.json_grammar.specs.declared.Spot.{Spot}
+use Rattle.json_grammar.specs.declared.ExpectedPart.{ExpectedPart}
 use Rattle.json_grammar.specs.Tree.{Token}
 use Rattle.json_grammar.specs.Place.{reading}
 use Rattle.json_grammar.proofs.Numeric.{last_number}
@@ -11,7 +11,7 @@ use Rattle.json_text.specs.Events.{Means}
 use Rattle.json_doc.specs.Reading.{EventIsNumber}
 
 -- the last event that was read
-pub event_number : {lossy : Bool} (e : Event) (x : Token) (p : List ℕ) (c : List Kind) (w : Spot) (ts : List Token) → Means e x → reading lossy p c w (ts ++ x ∷ []) → EventIsNumber e
+pub event_number : {lossy : Bool} (e : Event) (x : Token) (p : List ℕ) (c : List Kind) (w : ExpectedPart) (ts : List Token) → Means e x → reading lossy p c w (ts ++ x ∷ []) → EventIsNumber e
 event_number {lossy = lossy} (event.Number l) x p c w ts m h = last_number ts l.now (subst (λ (y : Token). reading lossy p c w (ts ++ y ∷ [])) m h)
 event_number event.Null x p c w ts m h = tt
 event_number (event.Bool v) x p c w ts m h = tt

@@ -8,17 +8,17 @@ use Rattle.json_grammar.specs.Tree.{Pairs, no_pairs, pair_and, Token, key_token}
 use Rattle.json_grammar.specs.Repeated.{names, open_keys}
 use Rattle.json_grammar.proofs.OpenKeys.{key_inside}
 use Rattle.json_grammar.specs.TokenStates.{TokenState, a_value, initial_state, after_tokens}
-use Rattle.json_doc.specs.Building.{Building, nothing, whole, in_array, in_object, in_pair}
-use Rattle.json_doc.specs.Recorded.{Held}
+use Rattle.json_doc.specs.Building.{BuilderState, nothing, whole, in_array, in_object, in_pair}
+use Rattle.json_doc.specs.Recorded.{RecordsTokens}
 use Rattle.json_doc.specs.Segment.{SegmentAt, text_cell}
-use Rattle.json_doc.specs.Places.{place_behind}
-use Rattle.json_doc.specs.OpenObject.{NamesText, MembersStand, KeyStands}
+use Rattle.json_doc.specs.Places.{place_after}
+use Rattle.json_doc.specs.OpenObject.{NamesText, MembersAt, MembersThenKey}
 use Rattle.json_doc.specs.declared.cell.Cell.{Cell}
 use Rattle.json_doc.specs.declared.cell.Cell.TheVariants as cell
 use Rattle.json_grammar.proofs.TokenStates.{after_append}
 use Rattle.json_doc.proofs.Segments.{node_some}
-use Rattle.json_doc.proofs.Spelling.{get_behind, stands_first, stands_rest, stands_left, stands_right}
-use Rattle.json_doc.proofs.Shaping.{node_behind, stands_within}
+use Rattle.json_doc.proofs.Spelling.{get_after, is_there_first, is_there_rest, is_there_left, is_there_right}
+use Rattle.json_doc.proofs.Shaping.{node_behind, is_there_within}
 
 module _ (cells : List Cell) (bytes : List ℕ) where
   -- the first of some members: its key, and the others after its value
@@ -28,29 +28,29 @@ module _ (cells : List Cell) (bytes : List ℕ) where
     pub names_are : names ps ≡ key ∷ names rest
     pub named : NamesText cells bytes at key
     pub within : at + 1 < length cells
-    pub later : at < place_behind cells (at + 1)
-    pub behind : MembersStand cells bytes (place_behind cells (at + 1)) rest end
+    pub later : at < place_after cells (at + 1)
+    pub after : MembersAt cells bytes (place_after cells (at + 1)) rest end
 
-  pub one_member : (at end : ℕ) (ps : Pairs) → MembersStand cells bytes at ps end → at < end → OneMember at end ps
+  pub one_member : (at end : ℕ) (ps : Pairs) → MembersAt cells bytes at ps end → at < end → OneMember at end ps
   one_member at end no_pairs (cs, s, r, e) l = absurd (omega (arith, ap length r))
   one_member at end (pair_and k t ps) (cs, s, (key, a, b, e, n, h, r), f) l =
       let there = subst (λ (x : List Cell). SegmentAt cells at x) e s in
-      let inner = stands_rest cells at key (a ++ b) there in
+      let inner = is_there_rest cells at key (a ++ b) there in
       let some = node_some bytes (at + 1) a t h in
-      let next : place_behind cells (at + 1) ≡ (at + 1) + length a = node_behind cells bytes (at + 1) a t h (stands_left cells (at + 1) a b inner) in
-      let within = stands_within cells (at + 1) (a ++ b) inner in
+      let next : place_after cells (at + 1) ≡ (at + 1) + length a = node_behind cells bytes (at + 1) a t h (is_there_left cells (at + 1) a b inner) in
+      let within = is_there_within cells (at + 1) (a ++ b) inner in
       record {
         key = k;
         rest = ps;
         names_are = refl;
-        named = (key, stands_first cells at key (a ++ b) there, n);
+        named = (key, is_there_first cells at key (a ++ b) there, n);
         within = omega (arith, within, length-append a b, some);
         later = omega (arith, next);
-        behind = subst (λ (n : ℕ). MembersStand cells bytes n ps end) (sym next) (b, stands_right cells (at + 1) a b inner, r, omega (arith, ap length e, length-append a b, f));
+        after = subst (λ (n : ℕ). MembersAt cells bytes n ps end) (sym next) (b, is_there_right cells (at + 1) a b inner, r, omega (arith, ap length e, length-append a b, f));
       }
 
   -- with no member left
-  pub none_left : (at end : ℕ) (ps : Pairs) → MembersStand cells bytes at ps end → end ≤ at → names ps ≡ []
+  pub none_left : (at end : ℕ) (ps : Pairs) → MembersAt cells bytes at ps end → end ≤ at → names ps ≡ []
   none_left at end no_pairs m l = refl
   none_left at end (pair_and k t ps) (cs, s, (key, a, b, e, n, h, r), f) l = absurd (omega (arith, ap length e, f))
 
@@ -88,11 +88,11 @@ no_last (y ∷ ts) x e = cc
 
 pub record OpenKey (cells : List Cell) (bytes : List ℕ) (p : ℕ) (ts : List Token) (s : List ℕ) : Type 0 where
   pub members : Pairs
-  pub stands : KeyStands cells bytes (p + 1) members (length cells - 1) s
+  pub is_there : MembersThenKey cells bytes (p + 1) members (length cells - 1) s
   pub keys : open_keys ts ≡ names members
 
 key_built : {bytes : List ℕ} {cells : List Cell} {p n : ℕ} {z : TokenState} {us : List Token} (ts : List Token) (s : List ℕ)
-    → Building bytes cells p n z us → z.expected ≡ a_value → us ≡ ts ++ key_token s ∷ [] → OpenKey cells bytes p ts s
+    → BuilderState bytes cells p n z us → z.expected ≡ a_value → us ≡ ts ++ key_token s ∷ [] → OpenKey cells bytes p ts s
 key_built ts s nothing e f = absurd (no_last ts (key_token s) f)
 key_built ts s (whole t h) e f = absurd (cc)
 key_built ts s (in_array cs us b v r) e f = absurd (cc)
@@ -112,12 +112,12 @@ key_built {bytes = bytes} ts s (in_pair {front = front} {p = p} {n = n} {ts = be
     } in
     record {
       members = us;
-      stands = (
+      is_there = (
         (cs, there, r, omega (arith, long)),
-        (key, ap (λ (x : List Cell). slice_get x (length all - 1)) split ∙ get_behind (front ++ header ∷ cs) key [] (length all - 1) last, subst (λ (x : List ℕ). text_cell bytes key x) (sym told.0) m),
+        (key, ap (λ (x : List Cell). slice_get x (length all - 1)) split ∙ get_after (front ++ header ∷ cs) key [] (length all - 1) last, subst (λ (x : List ℕ). text_cell bytes key x) (sym told.0) m),
       );
       keys = told.1;
     }
 
-pub open_key : (cells : List Cell) (bytes : List ℕ) (p n : ℕ) (ts : List Token) (s : List ℕ) → Held cells bytes p n (ts ++ key_token s ∷ []) → OpenKey cells bytes p ts s
+pub open_key : (cells : List Cell) (bytes : List ℕ) (p n : ℕ) (ts : List Token) (s : List ℕ) → RecordsTokens cells bytes p n (ts ++ key_token s ∷ []) → OpenKey cells bytes p ts s
 open_key cells bytes p n ts s h = key_built ts s h.built (after_name ts s) refl

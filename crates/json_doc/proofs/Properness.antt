@@ -7,7 +7,7 @@ use Rattle.json_grammar.specs.Proper.{IsProper, AreProper, ArePairsProper}
 use Rattle.json_number.proofs.Integers.{integer_number}
 use Rattle.json_doc.specs.Docs.{doc_cells, doc_text, doc_tree}
 use Rattle.json_doc.specs.Shape.{CellInPlace}
-use Rattle.json_doc.specs.Trees.{text_of_tree, tree_behind, pair_behind, tree_of_cell, trees_from}
+use Rattle.json_doc.specs.Trees.{text_of_tree, tree_after, pair_after, tree_of_cell, trees_from}
 use Rattle.json_doc.specs.declared.cell.Cell.{Cell}
 use Rattle.json_doc.specs.declared.cell.Cell.TheVariants as cell
 use Rattle.json_doc.specs.declared.doc.Doc.{Doc}
@@ -32,16 +32,16 @@ text_proper _ h = IsUtf8-nil
 
 -- children, by their places
 module _ (ts : List Tree) (at : ℕ) (h : AllProper ts) where
-  behind_proper : (k : ℕ) → IsProper (tree_behind ts at k)
+  behind_proper : (k : ℕ) → IsProper (tree_after ts at k)
   behind_proper k = proper_get ts (k - (at + 1)) h
 
-  listed_proper : (ks : List ℕ) → AreProper (list_trees (map (tree_behind ts at) ks))
+  listed_proper : (ks : List ℕ) → AreProper (list_trees (map (tree_after ts at) ks))
   listed_proper [] = tt
   listed_proper (k ∷ ks) = (behind_proper k, listed_proper ks)
 
-  paired_proper : (ks : List ℕ) → ArePairsProper (list_pairs (map (pair_behind ts at) ks))
+  paired_proper : (ks : List ℕ) → ArePairsProper (list_pairs (map (pair_after ts at) ks))
   paired_proper [] = tt
-  paired_proper (k ∷ ks) = (text_proper (tree_behind ts at (k - 1)) (behind_proper (k - 1)), behind_proper k, paired_proper ks)
+  paired_proper (k ∷ ks) = (text_proper (tree_after ts at (k - 1)) (behind_proper (k - 1)), behind_proper k, paired_proper ks)
 
 module _ (cells : List Cell) (bytes : List ℕ) (whole : IsUtf8 bytes) where
   cell_proper : (at k : ℕ) (ts : List Tree) (c : Cell) → CellInPlace cells bytes k c → AllProper ts → IsProper (tree_of_cell cells bytes at ts c)

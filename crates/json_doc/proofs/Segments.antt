@@ -5,7 +5,7 @@ use Rattle.std.proofs.lemmas.Str.{IsUtf8-append}
 use Rattle.json_grammar.specs.Tree.{Tree, null, boolean, num, text, list, pairs, Trees, no_trees, tree_and, Pairs, no_pairs, pair_and, Token, key_token, tokens, trees_tokens, pairs_tokens}
 use Rattle.json_number.specs.Integers.{integer_in}
 use Rattle.json_doc.specs.Texts.{trees_count, pairs_count}
-use Rattle.json_doc.specs.Segment.{SegmentAt, TextStands, text_cell, number_cell, node, trees_row, pairs_row}
+use Rattle.json_doc.specs.Segment.{SegmentAt, TextAt, text_cell, number_cell, node, trees_row, pairs_row}
 use Rattle.json_doc.specs.declared.cell.Cell.{Cell}
 
 pub trees_push : Trees → Tree → Trees
@@ -77,24 +77,24 @@ mutual
 
 -- ---- more bytes after them
 
-pub stands_more : {X : Type 0} (xs : List X) (at : ℕ) (ys more : List X) → SegmentAt xs at ys → SegmentAt (xs ++ more) at ys
-stands_more xs at ys more s = record {
+pub is_there_more : {X : Type 0} (xs : List X) (at : ℕ) (ys more : List X) → SegmentAt xs at ys → SegmentAt (xs ++ more) at ys
+is_there_more xs at ys more s = record {
   before = s.before;
   after = s.after ++ more;
   row = ap (λ zs. zs ++ more) s.row ∙ simp append_assoc;
   place = s.place;
 }
 
-text_stands_more : (bytes : List ℕ) (at : ℕ) (s more : List ℕ) → IsUtf8 more → TextStands bytes at s → TextStands (bytes ++ more) at s
-unfolding stands_more
-text_stands_more bytes at s more u (h, v, w) = (stands_more bytes at s more h, v, IsUtf8-append h.after more w u)
+text_is_there_more : (bytes : List ℕ) (at : ℕ) (s more : List ℕ) → IsUtf8 more → TextAt bytes at s → TextAt (bytes ++ more) at s
+unfolding is_there_more
+text_is_there_more bytes at s more u (h, v, w) = (is_there_more bytes at s more h, v, IsUtf8-append h.after more w u)
 
 pub text_more : (bytes : List ℕ) (c : Cell) (s more : List ℕ) → IsUtf8 more → text_cell bytes c s → text_cell (bytes ++ more) c s
-text_more bytes c s more u (start, e, h) = (start, e, text_stands_more bytes start s more u h)
+text_more bytes c s more u (start, e, h) = (start, e, text_is_there_more bytes start s more u h)
 
 number_more : (o : Option ℤ) (bytes : List ℕ) (c : Cell) (l more : List ℕ) → IsUtf8 more → number_cell o bytes c l → number_cell o (bytes ++ more) c l
 number_more (Some z) bytes c l more u h = h
-number_more None bytes c l more u (start, e, h) = (start, e, text_stands_more bytes start l more u h)
+number_more None bytes c l more u (start, e, h) = (start, e, text_is_there_more bytes start l more u h)
 
 module _ (bytes extra : List ℕ) (u : IsUtf8 extra) where
   mutual

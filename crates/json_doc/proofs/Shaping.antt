@@ -14,18 +14,18 @@ use Rattle.json_number.specs.Integers.{integer_in}
 use Rattle.json_doc.specs.ByValue.{value_of_cell}
 use Rattle.json_doc.specs.CellReadings.{cell_len}
 use Rattle.json_doc.specs.Texts.{trees_count, pairs_count}
-use Rattle.json_doc.specs.Places.{after_subtree, place_behind, place_from}
-use Rattle.json_doc.specs.Segment.{SegmentAt, TextStands, text_cell, number_cell, node, trees_row, pairs_row}
-use Rattle.json_doc.specs.Shape.{start_of, span_of, keys_of, is_str, is_raw, CellInPlace, CellsInPlace}
+use Rattle.json_doc.specs.Places.{after_subtree, place_after, place_from}
+use Rattle.json_doc.specs.Segment.{SegmentAt, TextAt, text_cell, number_cell, node, trees_row, pairs_row}
+use Rattle.json_doc.specs.Shape.{first_byte, span_of, keys_of, is_str, is_raw, CellInPlace, CellsInPlace}
 use Rattle.json_doc.specs.declared.cell.Cell.{Cell}
 use Rattle.json_doc.specs.declared.cell.Cell.TheVariants as cell
 use Rattle.json_doc.proofs.Segments.{node_some}
-use Rattle.json_doc.proofs.Spelling.{stands_first, stands_rest, stands_left, stands_right, stands_range}
+use Rattle.json_doc.proofs.Spelling.{is_there_first, is_there_rest, is_there_left, is_there_right, is_there_range}
 
-text_begins : (bytes : List ℕ) (at : ℕ) (s : List ℕ) → TextStands bytes at s → IsCharBoundary bytes at
+text_begins : (bytes : List ℕ) (at : ℕ) (s : List ℕ) → TextAt bytes at s → IsCharBoundary bytes at
 text_begins bytes at s (h, u, v) = subst (λ (n : ℕ). IsCharBoundary bytes n) h.place (IsCharBoundary-at_seam bytes h.before (s ++ h.after) h.row (IsUtf8-append s h.after u v))
 
-text_ends : (bytes : List ℕ) (at : ℕ) (s : List ℕ) → TextStands bytes at s → IsCharBoundary bytes (at + length s)
+text_ends : (bytes : List ℕ) (at : ℕ) (s : List ℕ) → TextAt bytes at s → IsCharBoundary bytes (at + length s)
 text_ends bytes at s (h, u, v) =
     subst (λ (n : ℕ). IsCharBoundary bytes n) (length-append h.before s ∙ ap (λ (n : ℕ). n + length s) h.place)
     (IsCharBoundary-at_seam bytes (h.before ++ s) h.after (h.row ∙ sym (append_assoc h.before s h.after)) v)
@@ -41,15 +41,15 @@ one_value : (c : Cell) (l : List ℕ) (n : ℤ) → integer_in l ≡ Some n → 
 one_value c l n e t is m h = let same : n ≡ m = cc in subst (λ (z : ℤ). integer_in (signed_decimal z) ≡ Some z) same (ap integer_in (sym t) ∙ e)
 
 -- a part of a list is within it
-pub stands_within : {X : Type 0} (xs : List X) (at : ℕ) (ys : List X) → SegmentAt xs at ys → at + length ys ≤ length xs
-stands_within xs at ys s = omega (arith, ap length s.row, length-append s.before (ys ++ s.after), length-append ys s.after, s.place)
+pub is_there_within : {X : Type 0} (xs : List X) (at : ℕ) (ys : List X) → SegmentAt xs at ys → at + length ys ≤ length xs
+is_there_within xs at ys s = omega (arith, ap length s.row, length-append s.before (ys ++ s.after), length-append ys s.after, s.place)
 
 module _ (cells : List Cell) (bytes : List ℕ) where
   -- the place after a tree
-  behind_cell : (at : ℕ) (c : Cell) (rest cs : List Cell) → cs ≡ c ∷ rest → SegmentAt cells at cs → place_behind cells at ≡ after_subtree at c
-  behind_cell at c rest cs e s = ap (after_subtree at) (get_or_from_slice_get cells at c cell.Null (stands_first cells at c rest (subst (λ (x : List Cell). SegmentAt cells at x) e s)))
+  behind_cell : (at : ℕ) (c : Cell) (rest cs : List Cell) → cs ≡ c ∷ rest → SegmentAt cells at cs → place_after cells at ≡ after_subtree at c
+  behind_cell at c rest cs e s = ap (after_subtree at) (get_or_from_slice_get cells at c cell.Null (is_there_first cells at c rest (subst (λ (x : List Cell). SegmentAt cells at x) e s)))
 
-  one_behind : (at : ℕ) (c : Cell) (cs : List Cell) → cs ≡ c ∷ [] → after_subtree at c ≡ at + 1 → SegmentAt cells at cs → place_behind cells at ≡ at + length cs
+  one_behind : (at : ℕ) (c : Cell) (cs : List Cell) → cs ≡ c ∷ [] → after_subtree at c ≡ at + 1 → SegmentAt cells at cs → place_after cells at ≡ at + length cs
   one_behind at c cs e f s = behind_cell at c [] cs e s ∙ f ∙ ap (λ (x : List Cell). at + length x) (sym e)
 
   number_behind : (o : Option ℤ) (at : ℕ) (c : Cell) (l : List ℕ) → number_cell o bytes c l → after_subtree at c ≡ at + 1
@@ -57,7 +57,7 @@ module _ (cells : List Cell) (bytes : List ℕ) where
   number_behind (Some (negsuc n)) at c l (e, t) = ap (after_subtree at) e
   number_behind None at c l (start, e, h) = ap (after_subtree at) e
 
-  pub node_behind : (at : ℕ) (cs : List Cell) (t : Tree) → node bytes at cs t → SegmentAt cells at cs → place_behind cells at ≡ at + length cs
+  pub node_behind : (at : ℕ) (cs : List Cell) (t : Tree) → node bytes at cs t → SegmentAt cells at cs → place_after cells at ≡ at + length cs
   node_behind at cs null e s = one_behind at cell.Null cs e refl s
   node_behind at cs (boolean b) e s = one_behind at (cell.Bool b) cs e refl s
   node_behind at cs (num l) (is, c, e, h) s = one_behind at c cs e (number_behind (integer_in l) at c l h) s
@@ -71,9 +71,9 @@ module _ (cells : List Cell) (bytes : List ℕ) where
   row_inside at cs (tree_and t ts) (a, b, e, n, r) s zero h = omega (arith, ap length e, length-append a b, node_some bytes at a t n)
   row_inside at cs (tree_and t ts) (a, b, e, n, r) s (suc i) h =
       let there = subst (λ (x : List Cell). SegmentAt cells at x) e s in
-      let next : place_behind cells at + 0 ≡ at + length a = omega (arith, node_behind at a t n (stands_left cells at a b there)) in
-      let more = row_inside (at + length a) b ts r (stands_right cells at a b there) i (omega arith) in
-      let moved : place_from cells 0 (place_behind cells at + 0) i < (at + length a) + length b = subst (λ (k : ℕ). place_from cells 0 k i < (at + length a) + length b) (sym next) more in
+      let next : place_after cells at + 0 ≡ at + length a = omega (arith, node_behind at a t n (is_there_left cells at a b there)) in
+      let more = row_inside (at + length a) b ts r (is_there_right cells at a b there) i (omega arith) in
+      let moved : place_from cells 0 (place_after cells at + 0) i < (at + length a) + length b = subst (λ (k : ℕ). place_from cells 0 k i < (at + length a) + length b) (sym next) more in
       omega (arith, moved, ap length e, length-append a b)
 
   -- each value is within, and the cell before it is that of its key
@@ -88,16 +88,16 @@ module _ (cells : List Cell) (bytes : List ℕ) where
       let before : (at + 1) - 1 ≡ at = omega arith in
       record {
         inside = omega (arith, ap length e, length-append a b, node_some bytes (at + 1) a t n);
-        keyed = rw before (ap is_str (get_or_from_slice_get cells at key cell.Null (stands_first cells at key (a ++ b) there) ∙ f));
+        keyed = rw before (ap is_str (get_or_from_slice_get cells at key cell.Null (is_there_first cells at key (a ++ b) there) ∙ f));
       }
   pair_row_inside at cs (pair_and k t ps) (key, a, b, e, first, n, r) s (suc i) h =
-      let there = stands_rest cells at key (a ++ b) (subst (λ (x : List Cell). SegmentAt cells at x) e s) in
-      let next : place_behind cells (at + 1) + 1 ≡ ((at + 1) + length a) + 1 = ap (λ (k : ℕ). k + 1) (node_behind (at + 1) a t n (stands_left cells (at + 1) a b there)) in
-      let more = pair_row_inside ((at + 1) + length a) b ps r (stands_right cells (at + 1) a b there) i (omega arith) in
+      let there = is_there_rest cells at key (a ++ b) (subst (λ (x : List Cell). SegmentAt cells at x) e s) in
+      let next : place_after cells (at + 1) + 1 ≡ ((at + 1) + length a) + 1 = ap (λ (k : ℕ). k + 1) (node_behind (at + 1) a t n (is_there_left cells (at + 1) a b there)) in
+      let more = pair_row_inside ((at + 1) + length a) b ps r (is_there_right cells (at + 1) a b there) i (omega arith) in
       let end : ((at + 1) + length a) + length b ≡ at + length cs = omega (arith, ap length e, length-append a b) in
       subst (λ (k : ℕ). Paired (at + 1) (suc i) k) end (shifted next more)
     where
-      shifted : {from to j m : ℕ} → place_behind cells from + 1 ≡ to → Paired to j m → Paired from (suc j) m
+      shifted : {from to j m : ℕ} → place_after cells from + 1 ≡ to → Paired to j m → Paired from (suc j) m
       shifted {j = j} {m = m} e p = record {
         inside = subst (λ (k : ℕ). place_from cells 1 k j < m) (sym e) p.inside;
         keyed = subst (λ (k : ℕ). is_str (slice_index_or cells (place_from cells 1 k j - 1) cell.Null) ≡ true) (sym e) p.keyed;
@@ -113,8 +113,8 @@ itself xs = record {
 
 module _ (cells : List Cell) (bytes : List ℕ) (whole : IsUtf8 bytes) where
   -- a cell without children
-  bare : (at : ℕ) (c d : Cell) → c ≡ d → IsCharBoundary bytes (start_of d) → IsCharBoundary bytes (start_of d + span_of d) → after_subtree at d ≡ at + 1 → cell_len d ≡ 0 → keys_of d ≡ 0
-      → (is_raw d ≡ true → ∥ number (slice_range bytes (start_of d) (start_of d + span_of d)) ∥₁) → (is_raw d ≡ true → integer_in (slice_range bytes (start_of d) (start_of d + span_of d)) ≡ None) → Valued d
+  bare : (at : ℕ) (c d : Cell) → c ≡ d → IsCharBoundary bytes (first_byte d) → IsCharBoundary bytes (first_byte d + span_of d) → after_subtree at d ≡ at + 1 → cell_len d ≡ 0 → keys_of d ≡ 0
+      → (is_raw d ≡ true → ∥ number (slice_range bytes (first_byte d) (first_byte d + span_of d)) ∥₁) → (is_raw d ≡ true → integer_in (slice_range bytes (first_byte d) (first_byte d + span_of d)) ≡ None) → Valued d
       → CellInPlace cells bytes at c
   bare at c d e p q on n m numeric raw valued =
       subst (λ (x : Cell). CellInPlace cells bytes at x) (sym e)
@@ -129,10 +129,10 @@ module _ (cells : List Cell) (bytes : List ℕ) (whole : IsUtf8 bytes) where
         valued = valued;
       })
 
-  plain : (at : ℕ) (c d : Cell) → c ≡ d → start_of d ≡ 0 → span_of d ≡ 0 → after_subtree at d ≡ at + 1 → cell_len d ≡ 0 → keys_of d ≡ 0 → is_raw d ≡ false → Valued d → CellInPlace cells bytes at c
+  plain : (at : ℕ) (c d : Cell) → c ≡ d → first_byte d ≡ 0 → span_of d ≡ 0 → after_subtree at d ≡ at + 1 → cell_len d ≡ 0 → keys_of d ≡ 0 → is_raw d ≡ false → Valued d → CellInPlace cells bytes at c
   plain at c d e p q on n m other valued =
       let start = IsCharBoundary-start bytes whole in
-      let both : 0 ≡ start_of d + span_of d = omega arith in
+      let both : 0 ≡ first_byte d + span_of d = omega arith in
       bare at c d e (subst (λ (k : ℕ). IsCharBoundary bytes k) (sym p) start) (subst (λ (k : ℕ). IsCharBoundary bytes k) both start) on n m (λ h. absurd (cc)) (λ h. absurd (cc)) valued
 
   text_in_place : (at : ℕ) (c : Cell) (s : List ℕ) → text_cell bytes c s → CellInPlace cells bytes at c
@@ -143,7 +143,7 @@ module _ (cells : List Cell) (bytes : List ℕ) (whole : IsUtf8 bytes) where
   number_in_place at c l (Some (pos n)) i is (e, t) = plain at c (cell.Unsigned n) e refl refl refl refl refl refl (one_value (cell.Unsigned n) l (pos n) i t refl)
   number_in_place at c l (Some (negsuc n)) i is (e, t) = plain at c (cell.Negative (negsuc n)) e refl refl refl refl refl refl (one_value (cell.Negative (negsuc n)) l (negsuc n) i t refl)
   number_in_place at c l None i is (start, e, s) =
-      let there = stands_range bytes start (length l) l refl s.0 in
+      let there = is_there_range bytes start (length l) l refl s.0 in
       bare at c (cell.Raw start (length l)) e (text_begins bytes start l s) (text_ends bytes start l s) refl refl refl
       (λ h. merely (subst number (sym there) is)) (λ h. ap integer_in there ∙ i) (no_value (cell.Raw start (length l)) refl)
 
@@ -160,14 +160,14 @@ module _ (cells : List Cell) (bytes : List ℕ) (whole : IsUtf8 bytes) where
   alone : (at : ℕ) (cs : List Cell) (c : Cell) → cs ≡ c ∷ [] → SegmentAt cells at cs → CellInPlace cells bytes at c → (k : ℕ) → at ≤ k → k < at + length cs → At k
   alone at cs c e s h k p q =
       let one : length cs ≡ 1 = ap length e in
-      at_cell k at c (omega arith) (stands_first cells at c [] (subst (λ (x : List Cell). SegmentAt cells at x) e s)) h
+      at_cell k at c (omega arith) (is_there_first cells at c [] (subst (λ (x : List Cell). SegmentAt cells at x) e s)) h
 
   -- a container's own cell, before all that is below it
   headed : (at : ℕ) (cs rest : List Cell) (c : Cell) → cs ≡ c ∷ rest → SegmentAt cells at cs → CellInPlace cells bytes at c
       → ((k : ℕ) → at + 1 ≤ k → k < (at + 1) + length rest → At k) → (k : ℕ) → at ≤ k → k < at + length cs → At k
   headed at cs rest c e s h below k p q =
       let count : length cs ≡ suc (length rest) = ap length e in
-      ⊎_elim (λ l. at_cell k at c (omega arith) (stands_first cells at c rest (subst (λ (x : List Cell). SegmentAt cells at x) e s)) h) (λ l. below k l (omega arith)) (cases_lt k (at + 1))
+      ⊎_elim (λ l. at_cell k at c (omega arith) (is_there_first cells at c rest (subst (λ (x : List Cell). SegmentAt cells at x) e s)) h) (λ l. below k l (omega arith)) (cases_lt k (at + 1))
 
   mutual
     node_in_place : (at : ℕ) (cs : List Cell) (t : Tree) → node bytes at cs t → SegmentAt cells at cs → (k : ℕ) → at ≤ k → k < at + length cs → At k
@@ -178,8 +178,8 @@ module _ (cells : List Cell) (bytes : List ℕ) (whole : IsUtf8 bytes) where
     node_in_place at cs (list ts) (rest, e, r) s =
         let start = IsCharBoundary-start bytes whole in
         let c = cell.Array ((at + 1) + length rest) (trees_count ts) in
-        let behind_it = stands_rest cells at c rest (subst (λ (x : List Cell). SegmentAt cells at x) e s) in
-        let within = stands_within cells (at + 1) rest behind_it in
+        let behind_it = is_there_rest cells at c rest (subst (λ (x : List Cell). SegmentAt cells at x) e s) in
+        let within = is_there_within cells (at + 1) rest behind_it in
         let here : CellInPlace cells bytes at c =
         record {
           begins = start;
@@ -195,8 +195,8 @@ module _ (cells : List Cell) (bytes : List ℕ) (whole : IsUtf8 bytes) where
     node_in_place at cs (pairs ps) (rest, e, r) s =
         let start = IsCharBoundary-start bytes whole in
         let c = cell.Object ((at + 1) + length rest) (pairs_count ps) in
-        let behind_it = stands_rest cells at c rest (subst (λ (x : List Cell). SegmentAt cells at x) e s) in
-        let within = stands_within cells (at + 1) rest behind_it in
+        let behind_it = is_there_rest cells at c rest (subst (λ (x : List Cell). SegmentAt cells at x) e s) in
+        let within = is_there_within cells (at + 1) rest behind_it in
         let first : (at + 1) + 1 ≡ at + 2 = omega arith in
         let each = λ (i : ℕ) (q : i < pairs_count ps). subst (λ (k : ℕ). Paired cells bytes k i ((at + 1) + length rest)) first (pair_row_inside cells bytes (at + 1) rest ps r behind_it i q) in
         let here : CellInPlace cells bytes at c =
@@ -217,16 +217,16 @@ module _ (cells : List Cell) (bytes : List ℕ) (whole : IsUtf8 bytes) where
     row_in_place at cs (tree_and t ts) (a, b, e, n, r) s k p q =
         let there = subst (λ (x : List Cell). SegmentAt cells at x) e s in
         let count : length cs ≡ length a + length b = ap length e ∙ length-append a b in
-        ⊎_elim (λ l. node_in_place at a t n (stands_left cells at a b there) k p l) (λ l. row_in_place (at + length a) b ts r (stands_right cells at a b there) k l (omega arith)) (cases_lt k (at + length a))
+        ⊎_elim (λ l. node_in_place at a t n (is_there_left cells at a b there) k p l) (λ l. row_in_place (at + length a) b ts r (is_there_right cells at a b there) k l (omega arith)) (cases_lt k (at + length a))
 
     pair_row_in_place : (at : ℕ) (cs : List Cell) (ps : Pairs) → pairs_row bytes at cs ps → SegmentAt cells at cs → (k : ℕ) → at ≤ k → k < at + length cs → At k
     pair_row_in_place at cs no_pairs e s k p q = absurd (omega (arith, ap length e))
     pair_row_in_place at cs (pair_and n t ps) (key, a, b, e, f, h, r) s k p q =
         let there = subst (λ (x : List Cell). SegmentAt cells at x) e s in
-        let behind_key = stands_rest cells at key (a ++ b) there in
+        let behind_key = is_there_rest cells at key (a ++ b) there in
         let count : length cs ≡ suc (length a + length b) = ap length e ∙ ap suc (length-append a b) in
-        ⊎_elim (λ l. at_cell k at key (omega arith) (stands_first cells at key (a ++ b) there) (text_in_place at key n f))
-        (λ m. ⊎_elim (λ l. node_in_place (at + 1) a t h (stands_left cells (at + 1) a b behind_key) k m l) (λ l. pair_row_in_place ((at + 1) + length a) b ps r (stands_right cells (at + 1) a b behind_key) k l (omega arith)) (cases_lt k ((at + 1) + length a)))
+        ⊎_elim (λ l. at_cell k at key (omega arith) (is_there_first cells at key (a ++ b) there) (text_in_place at key n f))
+        (λ m. ⊎_elim (λ l. node_in_place (at + 1) a t h (is_there_left cells (at + 1) a b behind_key) k m l) (λ l. pair_row_in_place ((at + 1) + length a) b ps r (is_there_right cells (at + 1) a b behind_key) k l (omega arith)) (cases_lt k ((at + 1) + length a)))
         (cases_lt k (at + 1))
 
   -- each cell of a finished tree

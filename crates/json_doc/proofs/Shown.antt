@@ -10,8 +10,8 @@ use Rattle.json_doc.specs.ByValue.{value_of_cell}
 use Rattle.json_doc.specs.CellReadings.{cell_type, cell_bool, cell_len}
 use Rattle.json_doc.specs.Docs.{doc_cells, doc_text, doc_tree}
 use Rattle.json_doc.specs.Left.{doc_pair}
-use Rattle.json_doc.specs.Places.{place_behind, places_from, place_from, AllBelow, child_in, child_of}
-use Rattle.json_doc.specs.Readings.{type_of, bool_of, integer_of, literal_unless, literal_of, string_of, elements, object_keys, values, children}
+use Rattle.json_doc.specs.Places.{place_after, places_from, place_from, AllBelow, child_in, child_of}
+use Rattle.json_doc.specs.Readings.{type_of, bool_of, integer_in_tree, literal_unless, literal_of, string_of, elements, object_keys, values, children}
 use Rattle.json_doc.specs.Shape.{is_str, AllKeys, CellInPlace}
 use Rattle.json_doc.specs.Trees.{text_of_tree, tree_of_cell}
 use Rattle.json_doc.specs.declared.cell.Cell.{Cell}
@@ -40,29 +40,29 @@ values_seen d (k ∷ ks) = ap (λ (x : List Tree). doc_tree d k ∷ x) (values_s
 
 pub length-of_places : {X : Type 0} (f : ℕ → X) (cells : List Cell) (keys at n : ℕ) → length (map f (places_from cells keys at n)) ≡ n
 length-of_places f cells keys at zero = refl
-length-of_places f cells keys at (suc n) = ap suc (length-of_places f cells keys (place_behind cells at + keys) n)
+length-of_places f cells keys at (suc n) = ap suc (length-of_places f cells keys (place_after cells at + keys) n)
 
 pub get-of_places : {X : Type 0} (f : ℕ → X) (cells : List Cell) (keys at n i : ℕ) → i < n → slice_get (map f (places_from cells keys at n)) i ≡ Some (f (place_from cells keys at i))
 get-of_places f cells keys at zero i h = absurd (omega arith)
 get-of_places f cells keys at (suc n) zero h = refl
-get-of_places f cells keys at (suc n) (suc i) h = get-of_places f cells keys (place_behind cells at + keys) n i (omega arith)
+get-of_places f cells keys at (suc n) (suc i) h = get-of_places f cells keys (place_after cells at + keys) n i (omega arith)
 
 pub past-of_places : {X : Type 0} (f : ℕ → X) (cells : List Cell) (keys at n i : ℕ) → n ≤ i → slice_get (map f (places_from cells keys at n)) i ≡ None
 past-of_places f cells keys at zero i h = refl
 past-of_places f cells keys at (suc n) zero h = absurd (omega arith)
-past-of_places f cells keys at (suc n) (suc i) h = past-of_places f cells keys (place_behind cells at + keys) n i (omega arith)
+past-of_places f cells keys at (suc n) (suc i) h = past-of_places f cells keys (place_after cells at + keys) n i (omega arith)
 
 pub get-places : (cells : List Cell) (keys at n i : ℕ) → i < n → slice_get (places_from cells keys at n) i ≡ Some (place_from cells keys at i)
 get-places cells keys at zero i h = absurd (omega arith)
 get-places cells keys at (suc n) zero h = refl
-get-places cells keys at (suc n) (suc i) h = get-places cells keys (place_behind cells at + keys) n i (omega arith)
+get-places cells keys at (suc n) (suc i) h = get-places cells keys (place_after cells at + keys) n i (omega arith)
 
 -- one step more
-pub place_next : (cells : List Cell) (keys at n m : ℕ) → m ≡ n + 1 → place_from cells keys at m ≡ place_behind cells (place_from cells keys at n) + keys
+pub place_next : (cells : List Cell) (keys at n m : ℕ) → m ≡ n + 1 → place_from cells keys at m ≡ place_after cells (place_from cells keys at n) + keys
 place_next cells keys at zero zero e = absurd (omega arith)
-place_next cells keys at zero (suc m) e = let none : m ≡ 0 = omega arith in ap (place_from cells keys (place_behind cells at + keys)) none
+place_next cells keys at zero (suc m) e = let none : m ≡ 0 = omega arith in ap (place_from cells keys (place_after cells at + keys)) none
 place_next cells keys at (suc n) zero e = absurd (omega arith)
-place_next cells keys at (suc n) (suc m) e = place_next cells keys (place_behind cells at + keys) n m (omega arith)
+place_next cells keys at (suc n) (suc m) e = place_next cells keys (place_after cells at + keys) n m (omega arith)
 
 -- ---- the tree at a place
 
@@ -81,7 +81,7 @@ module _ (cells : List Cell) (bytes : List ℕ) (at : ℕ) (ts : List Tree) wher
   no_literal_in (cell.Raw start len) v h = absurd (h start len refl)
   no_literal_in _ v h = refl
 
-  no_integer_in : (c : Cell) → CellInPlace cells bytes at c → ((n : ℕ) → c ≢ cell.Unsigned n) → ((n : ℤ) → c ≢ cell.Negative n) → integer_of (tree_of_cell cells bytes at ts c) ≡ None
+  no_integer_in : (c : Cell) → CellInPlace cells bytes at c → ((n : ℕ) → c ≢ cell.Unsigned n) → ((n : ℤ) → c ≢ cell.Negative n) → integer_in_tree (tree_of_cell cells bytes at ts c) ≡ None
   no_integer_in (cell.Unsigned n) p h k = absurd (h n refl)
   no_integer_in (cell.Negative n) p h k = absurd (k n refl)
   no_integer_in (cell.Raw start len) p h k = p.raw refl
@@ -152,11 +152,11 @@ module _ (d : Doc) (at : ℕ) (c : Cell) (inside : at < length (doc_cells d)) (i
   pub integer_tree_at : (n : ℤ) → value_of_cell c ≡ Some n → doc_tree d at ≡ num (signed_decimal n)
   integer_tree_at n e = here ∙ value_in (doc_cells d) (doc_text d) at ahead c n e
 
-  pub integer_at : (n : ℤ) → value_of_cell c ≡ Some n → integer_of (doc_tree d at) ≡ Some n
-  integer_at n e = ap integer_of (integer_tree_at n e) ∙ in_place_here.valued n e
+  pub integer_at : (n : ℤ) → value_of_cell c ≡ Some n → integer_in_tree (doc_tree d at) ≡ Some n
+  integer_at n e = ap integer_in_tree (integer_tree_at n e) ∙ in_place_here.valued n e
 
-  pub no_integer_at : ((n : ℕ) → c ≢ cell.Unsigned n) → ((n : ℤ) → c ≢ cell.Negative n) → integer_of (doc_tree d at) ≡ None
-  no_integer_at h k = ap integer_of here ∙ no_integer_in (doc_cells d) (doc_text d) at ahead c in_place_here h k
+  pub no_integer_at : ((n : ℕ) → c ≢ cell.Unsigned n) → ((n : ℤ) → c ≢ cell.Negative n) → integer_in_tree (doc_tree d at) ≡ None
+  no_integer_at h k = ap integer_in_tree here ∙ no_integer_in (doc_cells d) (doc_text d) at ahead c in_place_here h k
 
   pub string_at : (start len : ℕ) → c ≡ cell.Str start len → string_of (doc_tree d at) ≡ Some (slice_range (doc_text d) start (start + len))
   string_at start len e = ap string_of (there _ e)
@@ -264,21 +264,21 @@ key_string d k h e = string_there d k (get_or (doc_cells d) k cell.Null) h refl 
 
 -- ---- an iterator's steps
 
-pub still_below : (cells : List Cell) (keys next left : ℕ) → 0 < left → AllBelow cells keys next left → AllBelow cells keys (place_behind cells next + keys) (left - 1)
+pub still_below : (cells : List Cell) (keys next left : ℕ) → 0 < left → AllBelow cells keys next left → AllBelow cells keys (place_after cells next + keys) (left - 1)
 still_below cells keys next left some h i l = h (suc i) (omega arith)
 
-pub still_keys : (cells : List Cell) (next left : ℕ) → 0 < left → AllKeys cells next left → AllKeys cells (place_behind cells next + 1) (left - 1)
+pub still_keys : (cells : List Cell) (next left : ℕ) → 0 < left → AllKeys cells next left → AllKeys cells (place_after cells next + 1) (left - 1)
 still_keys cells next left some h i l = h (suc i) (omega arith)
 
 -- the first is given, by its place
-pub first_place : {X : Type 0} (f : ℕ → X) (cells : List Cell) (keys next left : ℕ) (x : X) → 0 < left → x ≡ f next → map f (places_from cells keys next left) ≡ x ∷ map f (places_from cells keys (place_behind cells next + keys) (left - 1))
+pub first_place : {X : Type 0} (f : ℕ → X) (cells : List Cell) (keys next left : ℕ) (x : X) → 0 < left → x ≡ f next → map f (places_from cells keys next left) ≡ x ∷ map f (places_from cells keys (place_after cells next + keys) (left - 1))
 first_place {X = X} f cells keys next zero x h e = absurd (omega arith)
 first_place {X = X} f cells keys next (suc n) x h e =
     let one : suc n - 1 ≡ n = omega arith in
-    ap (λ (y : X). y ∷ map f (places_from cells keys (place_behind cells next + keys) n)) (sym e) ∙ ap (λ (k : ℕ). x ∷ map f (places_from cells keys (place_behind cells next + keys) k)) (sym one)
+    ap (λ (y : X). y ∷ map f (places_from cells keys (place_after cells next + keys) n)) (sym e) ∙ ap (λ (k : ℕ). x ∷ map f (places_from cells keys (place_after cells next + keys) k)) (sym one)
 
-pub first_of_places : (cells : List Cell) (keys next left at : ℕ) → 0 < left → at ≡ next → places_from cells keys next left ≡ at ∷ places_from cells keys (place_behind cells next + keys) (left - 1)
+pub first_of_places : (cells : List Cell) (keys next left at : ℕ) → 0 < left → at ≡ next → places_from cells keys next left ≡ at ∷ places_from cells keys (place_after cells next + keys) (left - 1)
 first_of_places cells keys next zero at h e = absurd (omega arith)
 first_of_places cells keys next (suc n) at h e =
     let one : suc n - 1 ≡ n = omega arith in
-    ap (λ (y : ℕ). y ∷ places_from cells keys (place_behind cells next + keys) n) (sym e) ∙ ap (λ (k : ℕ). at ∷ places_from cells keys (place_behind cells next + keys) k) (sym one)
+    ap (λ (y : ℕ). y ∷ places_from cells keys (place_after cells next + keys) n) (sym e) ∙ ap (λ (k : ℕ). at ∷ places_from cells keys (place_after cells next + keys) k) (sym one)

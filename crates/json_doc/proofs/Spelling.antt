@@ -10,55 +10,55 @@ use Rattle.json_doc.specs.Spells.{spells_text, spells_number, spells, spells_tre
 use Rattle.json_doc.specs.declared.cell.Cell.{Cell}
 use Rattle.json_doc.specs.declared.cell.Cell.TheVariants as cell
 
-pub get_behind : {X : Type 0} (a : List X) (x : X) (b : List X) (n : ℕ) → length a ≡ n → slice_get (a ++ x ∷ b) n ≡ Some x
-get_behind [] x b zero e = refl
-get_behind [] x b (suc n) e = absurd (omega arith)
-get_behind (y ∷ a) x b zero e = absurd (omega arith)
-get_behind (y ∷ a) x b (suc n) e = get_behind a x b n (omega arith)
+pub get_after : {X : Type 0} (a : List X) (x : X) (b : List X) (n : ℕ) → length a ≡ n → slice_get (a ++ x ∷ b) n ≡ Some x
+get_after [] x b zero e = refl
+get_after [] x b (suc n) e = absurd (omega arith)
+get_after (y ∷ a) x b zero e = absurd (omega arith)
+get_after (y ∷ a) x b (suc n) e = get_after a x b n (omega arith)
 
-pub stands_first : {X : Type 0} (xs : List X) (at : ℕ) (y : X) (ys : List X) → SegmentAt xs at (y ∷ ys) → slice_get xs at ≡ Some y
-stands_first xs at y ys s = ap (λ zs. slice_get zs at) s.row ∙ get_behind s.before y (ys ++ s.after) at s.place
+pub is_there_first : {X : Type 0} (xs : List X) (at : ℕ) (y : X) (ys : List X) → SegmentAt xs at (y ∷ ys) → slice_get xs at ≡ Some y
+is_there_first xs at y ys s = ap (λ zs. slice_get zs at) s.row ∙ get_after s.before y (ys ++ s.after) at s.place
 
-pub stands_rest : {X : Type 0} (xs : List X) (at : ℕ) (y : X) (ys : List X) → SegmentAt xs at (y ∷ ys) → SegmentAt xs (at + 1) ys
-stands_rest xs at y ys s = record {
+pub is_there_rest : {X : Type 0} (xs : List X) (at : ℕ) (y : X) (ys : List X) → SegmentAt xs at (y ∷ ys) → SegmentAt xs (at + 1) ys
+is_there_rest xs at y ys s = record {
   before = s.before ++ y ∷ [];
   after = s.after;
   row = s.row ∙ sym (append_assoc s.before (y ∷ []) (ys ++ s.after));
   place = length_push s.before y ∙ ap (λ (n : ℕ). n + 1) s.place;
 }
 
-pub stands_left : {X : Type 0} (xs : List X) (at : ℕ) (ys zs : List X) → SegmentAt xs at (ys ++ zs) → SegmentAt xs at ys
-stands_left xs at ys zs s = record {
+pub is_there_left : {X : Type 0} (xs : List X) (at : ℕ) (ys zs : List X) → SegmentAt xs at (ys ++ zs) → SegmentAt xs at ys
+is_there_left xs at ys zs s = record {
   before = s.before;
   after = zs ++ s.after;
   row = s.row ∙ ap (λ x. s.before ++ x) (append_assoc ys zs s.after);
   place = s.place;
 }
 
-pub stands_right : {X : Type 0} (xs : List X) (at : ℕ) (ys zs : List X) → SegmentAt xs at (ys ++ zs) → SegmentAt xs (at + length ys) zs
-stands_right xs at ys zs s = record {
+pub is_there_right : {X : Type 0} (xs : List X) (at : ℕ) (ys zs : List X) → SegmentAt xs at (ys ++ zs) → SegmentAt xs (at + length ys) zs
+is_there_right xs at ys zs s = record {
   before = s.before ++ ys;
   after = s.after;
   row = s.row ∙ ap (λ x. s.before ++ x) (append_assoc ys zs s.after) ∙ sym (append_assoc s.before ys (zs ++ s.after));
   place = length-append s.before ys ∙ ap (λ (n : ℕ). n + length ys) s.place;
 }
 
-pub stands_range : {X : Type 0} (xs : List X) (at n : ℕ) (ys : List X) → length ys ≡ n → SegmentAt xs at ys → slice_range xs at (at + n) ≡ ys
-stands_range xs at n ys e s =
+pub is_there_range : {X : Type 0} (xs : List X) (at n : ℕ) (ys : List X) → length ys ≡ n → SegmentAt xs at ys → slice_range xs at (at + n) ≡ ys
+is_there_range xs at n ys e s =
     let d : drop at xs ≡ ys ++ s.after = ap (drop at) s.row ∙ drop_at s.before (ys ++ s.after) at s.place in
     let k : (at + n) - at ≡ n = omega arith in
     rw (k, d) (take_at ys s.after n e)
 
 pub text_spells : (cells : List Cell) (bytes : List ℕ) (c : Cell) (at : ℕ) (s : List ℕ) → text_cell bytes c s → slice_get cells at ≡ Some c → spells_text cells bytes at s
-text_spells cells bytes c at s (start, e, h) g = (start, g ∙ ap Some e, stands_range bytes start (length s) s refl h.0)
+text_spells cells bytes c at s (start, e, h) g = (start, g ∙ ap Some e, is_there_range bytes start (length s) s refl h.0)
 
 number_spells : (o : Option ℤ) (cells : List Cell) (bytes : List ℕ) (c : Cell) (at : ℕ) (l : List ℕ) → number_cell o bytes c l → slice_get cells at ≡ Some c → spells_number o cells bytes at l
 number_spells (Some n) cells bytes c at l (e, t) g = (g ∙ ap Some e, t)
-number_spells None cells bytes c at l (start, e, s) g = (start, g ∙ ap Some e, stands_range bytes start (length l) l refl s.0)
+number_spells None cells bytes c at l (start, e, s) g = (start, g ∙ ap Some e, is_there_range bytes start (length l) l refl s.0)
 
 module _ (cells : List Cell) (bytes : List ℕ) where
   alone : (at : ℕ) (cs : List Cell) (c : Cell) → cs ≡ c ∷ [] → SegmentAt cells at cs → slice_get cells at ≡ Some c
-  alone at cs c e s = stands_first cells at c [] (subst (λ (x : List Cell). SegmentAt cells at x) e s)
+  alone at cs c e s = is_there_first cells at c [] (subst (λ (x : List Cell). SegmentAt cells at x) e s)
 
   one : (at : ℕ) (cs : List Cell) (c : Cell) → cs ≡ c ∷ [] → at + length cs ≡ at + 1
   one at cs c e = ap (λ (x : List Cell). at + length x) e
@@ -73,15 +73,15 @@ module _ (cells : List Cell) (bytes : List ℕ) where
         let header = cell.Array ((at + 1) + length rest) (trees_count ts) in
         let there = subst (λ (x : List Cell). SegmentAt cells at x) e s in
         let end : (at + 1) + length rest ≡ at + length cs = omega (arith, ap length e) in (
-          stands_first cells at header rest there ∙ ap (λ (n : ℕ). Some (cell.Array n (trees_count ts))) end,
-          subst (λ (n : ℕ). spells_trees cells bytes (at + 1) ts n) end (row_spells (at + 1) rest ts r (stands_rest cells at header rest there)),
+          is_there_first cells at header rest there ∙ ap (λ (n : ℕ). Some (cell.Array n (trees_count ts))) end,
+          subst (λ (n : ℕ). spells_trees cells bytes (at + 1) ts n) end (row_spells (at + 1) rest ts r (is_there_rest cells at header rest there)),
         )
     node_spells at cs (pairs ps) (rest, e, r) s =
         let header = cell.Object ((at + 1) + length rest) (pairs_count ps) in
         let there = subst (λ (x : List Cell). SegmentAt cells at x) e s in
         let end : (at + 1) + length rest ≡ at + length cs = omega (arith, ap length e) in (
-          stands_first cells at header rest there ∙ ap (λ (n : ℕ). Some (cell.Object n (pairs_count ps))) end,
-          subst (λ (n : ℕ). spells_pairs cells bytes (at + 1) ps n) end (pair_row_spells (at + 1) rest ps r (stands_rest cells at header rest there)),
+          is_there_first cells at header rest there ∙ ap (λ (n : ℕ). Some (cell.Object n (pairs_count ps))) end,
+          subst (λ (n : ℕ). spells_pairs cells bytes (at + 1) ps n) end (pair_row_spells (at + 1) rest ps r (is_there_rest cells at header rest there)),
         )
 
     row_spells : (at : ℕ) (cs : List Cell) (ts : Trees) → trees_row bytes at cs ts → SegmentAt cells at cs → spells_trees cells bytes at ts (at + length cs)
@@ -89,16 +89,16 @@ module _ (cells : List Cell) (bytes : List ℕ) where
     row_spells at cs (tree_and t ts) (a, b, e, n, r) s =
         let there = subst (λ (x : List Cell). SegmentAt cells at x) e s in
         let end : (at + length a) + length b ≡ at + length cs = omega (arith, ap length e, length-append a b) in
-        (at + length a, node_spells at a t n (stands_left cells at a b there), subst (λ (n : ℕ). spells_trees cells bytes (at + length a) ts n) end (row_spells (at + length a) b ts r (stands_right cells at a b there)))
+        (at + length a, node_spells at a t n (is_there_left cells at a b there), subst (λ (n : ℕ). spells_trees cells bytes (at + length a) ts n) end (row_spells (at + length a) b ts r (is_there_right cells at a b there)))
 
     pair_row_spells : (at : ℕ) (cs : List Cell) (ps : Pairs) → pairs_row bytes at cs ps → SegmentAt cells at cs → spells_pairs cells bytes at ps (at + length cs)
     pair_row_spells at cs no_pairs e s = omega (arith, ap length e)
     pair_row_spells at cs (pair_and k t ps) (key, a, b, e, f, n, r) s =
         let there = subst (λ (x : List Cell). SegmentAt cells at x) e s in
-        let behind = stands_rest cells at key (a ++ b) there in
+        let behind = is_there_rest cells at key (a ++ b) there in
         let end : ((at + 1) + length a) + length b ≡ at + length cs = omega (arith, ap length e, length-append a b) in (
           (at + 1) + length a,
-          text_spells cells bytes key at k f (stands_first cells at key (a ++ b) there),
-          node_spells (at + 1) a t n (stands_left cells (at + 1) a b behind),
-          subst (λ (n : ℕ). spells_pairs cells bytes ((at + 1) + length a) ps n) end (pair_row_spells ((at + 1) + length a) b ps r (stands_right cells (at + 1) a b behind)),
+          text_spells cells bytes key at k f (is_there_first cells at key (a ++ b) there),
+          node_spells (at + 1) a t n (is_there_left cells (at + 1) a b behind),
+          subst (λ (n : ℕ). spells_pairs cells bytes ((at + 1) + length a) ps n) end (pair_row_spells ((at + 1) + length a) b ps r (is_there_right cells (at + 1) a b behind)),
         )

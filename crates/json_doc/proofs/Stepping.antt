@@ -1,7 +1,7 @@
 -- A step of a reader of a whole text, as one of a parser that began at the text's beginning.
 use Rattle.std.proofs.Common.{◌≡◌, ℕ, ◌+◌, ◌-◌, ◌≤◌, List, [], ◌∷◌, ◌++◌, length, length-append, None, false, refl, ap, subst, ◌∙◌, arith}
 use Rattle.json_grammar.specs.declared.Kind.{Kind}
-use Rattle.json_grammar.specs.declared.Spot.{Spot}
+use Rattle.json_grammar.specs.declared.ExpectedPart.{ExpectedPart}
 use Rattle.json_grammar.specs.Given.{piece}
 use Rattle.json_io.specs.declared.error.ErrorCode.{ErrorCode}
 use Rattle.json_text.specs.declared.event.Event.{Event}
@@ -11,18 +11,18 @@ use Rattle.json_text.specs.Events.{event_bytes}
 use Rattle.json_io.specs.Positions.{place_at}
 use Rattle.json_text.specs.Faults.{IsFault}
 use Rattle.json_text.specs.Due.{NextNeeds}
-use Rattle.json_text.specs.Parsing.{ParserState, state_of, Goes, IsTight, IsLent, SameInput, IsDue}
-use Rattle.json_text.specs.Steps.{Advances, StandsBehindGap}
+use Rattle.json_text.specs.Parsing.{ParserState, state_of, AdvancesTo, IsTight, IsLent, SameInput, IsDue}
+use Rattle.json_text.specs.Steps.{Advances, TokenAfterGap}
 use Rattle.json_text.proofs.Going.{step_goes, step_tight}
 use Rattle.json_text.proofs.Needing.{needs_left}
 use Rattle.json_doc.specs.Lent.{IsLentBy, IsPieceAt, EventIsLentBy, from_of}
 
 pub record Stepped (p q : ParserState) (e : Event) : Type 0 where
-  pub goes : Goes p e q
+  pub goes : AdvancesTo p e q
   pub tight : IsTight p e q
   pub same : SameInput p q
 
-pub stepped : (b : List ℕ) (n i j : ℕ) (c d : List Kind) (w v : Spot) (e : Event) → Advances false n b i c w e j d v → StandsBehindGap false b i e j → Stepped (state_of b 0 false n i c w None) (state_of b 0 false n j d v None) e
+pub stepped : (b : List ℕ) (n i j : ℕ) (c d : List Kind) (w v : ExpectedPart) (e : Event) → Advances false n b i c w e j d v → TokenAfterGap false b i e j → Stepped (state_of b 0 false n i c w None) (state_of b 0 false n j d v None) e
 stepped b n i j c d w v e goes tight = record {
   goes = step_goes b b 0 false n None i j c d w v refl e goes;
   tight = step_tight b b 0 false n None i j c d w v refl e tight;
@@ -30,11 +30,11 @@ stepped b n i j c d w v e goes tight = record {
 }
 
 -- the step to the end
-pub ended : (p q : ParserState) (e : Event) → e ≡ event.End → Goes p e q → Goes p event.End q
-ended p q e is g = subst (λ (x : Event). Goes p x q) is g
+pub ended : (p q : ParserState) (e : Event) → e ≡ event.End → AdvancesTo p e q → AdvancesTo p event.End q
+ended p q e is g = subst (λ (x : Event). AdvancesTo p x q) is g
 
 -- the fault is due at the next event
-pub due_in : (b : List ℕ) (n i : ℕ) (c : List Kind) (w : Spot) (code : ErrorCode) (k : ℕ) → IsFault false n b code k → NextNeeds false b i code k → IsDue (state_of b 0 false n i c w None) (record { code = code; place = place_at b k })
+pub due_in : (b : List ℕ) (n i : ℕ) (c : List Kind) (w : ExpectedPart) (code : ErrorCode) (k : ℕ) → IsFault false n b code k → NextNeeds false b i code k → IsDue (state_of b 0 false n i c w None) (record { code = code; place = place_at b k })
 due_in b n i c w code k fault needs =
     let zeroth : k ≡ 0 + k = omega arith in
     record { offset = k; place = ap (place_at b) zeroth; fault = fault; needs = needs_left false b 0 i k code needs }

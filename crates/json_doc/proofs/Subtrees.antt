@@ -3,13 +3,13 @@ use Rattle.std.proofs.Common.{◌≡◌, ◌≢◌, ◌∙◌, ◌⊎◌, inl, i
 use Rattle.std.proofs.lemmas.List.{nil_from_length}
 use Rattle.json_grammar.specs.declared.Kind.{Kind}
 use Rattle.json_grammar.specs.declared.Kind.TheVariants.{Array as array, Object as object}
-use Rattle.json_grammar.specs.declared.Spot.TheVariants.{Done as done}
+use Rattle.json_grammar.specs.declared.ExpectedPart.TheVariants.{Done as done}
 use Rattle.json_grammar.specs.Tree.{Tree, null, boolean, num, text, list, pairs, Trees, no_trees, tree_and, Pairs, no_pairs, pair_and, Token, null_token, boolean_token, num_token, text_token, begin, end, key_token, tokens, trees_tokens, pairs_tokens}
 use Rattle.json_grammar.specs.Place.{reading, outside}
 use Rattle.json_grammar.proofs.Closing.{whole_text}
 use Rattle.json_text.specs.Parsing.{ParserState, input, HasGiven, IsWhole}
 use Rattle.json_grammar.specs.TokenStates.{TokenState, nothing, initial_state, state_in, after_token, after_tokens, Accepts, BeginsTree}
-use Rattle.json_doc.specs.OneValue.{TokenBeginsValue, levels_behind}
+use Rattle.json_doc.specs.OneValue.{TokenBeginsValue, open_levels_after}
 use Rattle.json_grammar.proofs.TokenStates.{after_tree}
 use Rattle.json_grammar.proofs.TokenPrefixes.{tree_alone}
 
@@ -82,7 +82,7 @@ outside_length [] = refl
 outside_length (k ∷ c) = omega arith
 
 -- how many are open after a token
-pub levels_step : (x : Token) (s : TokenState) → length (after_token s x).opened ≡ levels_behind x (length s.opened)
+pub levels_step : (x : Token) (s : TokenState) → length (after_token s x).opened ≡ open_levels_after x (length s.opened)
 levels_step null_token s = refl
 levels_step (boolean_token b) s = refl
 levels_step (num_token l) s = refl

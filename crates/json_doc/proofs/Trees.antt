@@ -10,10 +10,10 @@ use Rattle.json_grammar.specs.Tree.{Tree, null, boolean, num, text, list, pairs,
 use Rattle.json_number.specs.Integers.{integer_in}
 use Rattle.json_doc.specs.ByValue.{integer_cell}
 use Rattle.json_doc.specs.Texts.{trees_count, pairs_count}
-use Rattle.json_doc.specs.Places.{after_subtree, place_behind, places_from, place_from}
+use Rattle.json_doc.specs.Places.{after_subtree, place_after, places_from, place_from}
 use Rattle.json_doc.specs.Shape.{CellsInPlace}
 use Rattle.json_doc.specs.Spells.{spells_text, spells_number, spells, spells_trees, spells_pairs}
-use Rattle.json_doc.specs.Trees.{text_of_tree, tree_behind, pair_behind, tree_of_cell, trees_from, tree_at_cell}
+use Rattle.json_doc.specs.Trees.{text_of_tree, tree_after, pair_after, tree_of_cell, trees_from, tree_at_cell}
 use Rattle.json_doc.specs.declared.cell.Cell.{Cell}
 use Rattle.json_doc.specs.declared.cell.Cell.TheVariants as cell
 
@@ -25,27 +25,27 @@ pub pairs_back : (ps : Pairs) → list_pairs (pairs_list ps) ≡ ps
 pairs_back no_pairs = refl
 pairs_back (pair_and k t ps) = ap (pair_and k t) (pairs_back ps)
 
-pub places_more : (cells : List Cell) (keys m n at : ℕ) → m ≡ 1 + n → places_from cells keys at m ≡ at ∷ places_from cells keys (place_behind cells at + keys) n
+pub places_more : (cells : List Cell) (keys m n at : ℕ) → m ≡ 1 + n → places_from cells keys at m ≡ at ∷ places_from cells keys (place_after cells at + keys) n
 places_more cells keys zero n at e = absurd (omega arith)
-places_more cells keys (suc m) n at e = let same : m ≡ n = omega arith in ap (λ (k : ℕ). at ∷ places_from cells keys (place_behind cells at + keys) k) same
+places_more cells keys (suc m) n at e = let same : m ≡ n = omega arith in ap (λ (k : ℕ). at ∷ places_from cells keys (place_after cells at + keys) k) same
 
 -- what follows a cell is at a later place
-pub step_ahead : (cells : List Cell) (bytes : List ℕ) (at : ℕ) → CellsInPlace cells bytes → at < place_behind cells at
+pub step_ahead : (cells : List Cell) (bytes : List ℕ) (at : ℕ) → CellsInPlace cells bytes → at < place_after cells at
 step_ahead cells bytes at h =
     ⊎_elim (λ l. (h at l).ahead) (λ l. subst (λ (c : Cell). at < after_subtree at c) (sym (get_or_past cells at cell.Null l)) (let next : at < at + 1 = omega arith in next)) (cases_lt at (length cells))
 
 -- places go up
 pub place_up : (cells : List Cell) (bytes : List ℕ) (keys at n : ℕ) → CellsInPlace cells bytes → at ≤ place_from cells keys at n
 place_up cells bytes keys at zero h = omega arith
-place_up cells bytes keys at (suc n) h = let on = step_ahead cells bytes at h in let more = place_up cells bytes keys (place_behind cells at + keys) n h in omega arith
+place_up cells bytes keys at (suc n) h = let on = step_ahead cells bytes at h in let more = place_up cells bytes keys (place_after cells at + keys) n h in omega arith
 
 integer_tree : (cells : List Cell) (bytes : List ℕ) (at : ℕ) (ts : List Tree) (n : ℤ) → tree_of_cell cells bytes at ts (integer_cell n) ≡ num (signed_decimal n)
 integer_tree cells bytes at ts (pos n) = refl
 integer_tree cells bytes at ts (negsuc n) = refl
 
-integer_behind : (at : ℕ) (n : ℤ) → after_subtree at (integer_cell n) ≡ at + 1
-integer_behind at (pos n) = refl
-integer_behind at (negsuc n) = refl
+integer_after : (at : ℕ) (n : ℤ) → after_subtree at (integer_cell n) ≡ at + 1
+integer_after at (pos n) = refl
+integer_after at (negsuc n) = refl
 
 -- the value at a place, and its key before it
 abbrev pub pair_at : List Cell → List ℕ → ℕ → List ℕ × Tree
@@ -81,33 +81,33 @@ module _ (cells : List Cell) (bytes : List ℕ) where
       sym first ∙ ap (λ (ts : List Tree). get_or ts 0 null) here ∙ ap (λ (ts : List Tree). tree_of_cell cells bytes at ts (get_or cells at cell.Null)) (from_next at)
 
   -- what is at a later place
-  pub looked : (at k : ℕ) → at + 1 ≤ k → tree_behind (from (at + 1)) at k ≡ tree_at_cell cells bytes k
+  pub looked : (at k : ℕ) → at + 1 ≤ k → tree_after (from (at + 1)) at k ≡ tree_at_cell cells bytes k
   unfolding from
   looked at k h =
       let same : (at + 1) + (k - (at + 1)) ≡ k = omega arith in
       get_or-drop (at + 1) (trees_from cells bytes 0 cells) (k - (at + 1)) null ∙ ap (λ (i : ℕ). get_or (trees_from cells bytes 0 cells) i null) same
 
-  looked_pair : (at k : ℕ) → at + 2 ≤ k → pair_behind (from (at + 1)) at k ≡ pair_at cells bytes k
+  looked_pair : (at k : ℕ) → at + 2 ≤ k → pair_after (from (at + 1)) at k ≡ pair_at cells bytes k
   looked_pair at k h =
-      ap (λ (t : Tree). (text_of_tree t, tree_behind (from (at + 1)) at k)) (looked at (k - 1) (omega arith)) ∙ ap (λ (t : Tree). (text_of_tree (tree_at_cell cells bytes (k - 1)), t)) (looked at k (omega arith))
+      ap (λ (t : Tree). (text_of_tree t, tree_after (from (at + 1)) at k)) (looked at (k - 1) (omega arith)) ∙ ap (λ (t : Tree). (text_of_tree (tree_at_cell cells bytes (k - 1)), t)) (looked at k (omega arith))
 
   module _ (h : CellsInPlace cells bytes) where
-    pub looked_all : (at keys k n : ℕ) → at + 1 ≤ k → map (tree_behind (from (at + 1)) at) (places_from cells keys k n) ≡ map (tree_at_cell cells bytes) (places_from cells keys k n)
+    pub looked_all : (at keys k n : ℕ) → at + 1 ≤ k → map (tree_after (from (at + 1)) at) (places_from cells keys k n) ≡ map (tree_at_cell cells bytes) (places_from cells keys k n)
     looked_all at keys k zero l = refl
     looked_all at keys k (suc n) l =
         let on = step_ahead cells bytes k h in
-        ap₂ (λ (t : Tree) (ts : List Tree). t ∷ ts) (looked at k l) (looked_all at keys (place_behind cells k + keys) n (omega arith))
+        ap₂ (λ (t : Tree) (ts : List Tree). t ∷ ts) (looked at k l) (looked_all at keys (place_after cells k + keys) n (omega arith))
 
-    pub looked_pairs : (at keys k n : ℕ) → at + 2 ≤ k → map (pair_behind (from (at + 1)) at) (places_from cells keys k n) ≡ map (pair_at cells bytes) (places_from cells keys k n)
+    pub looked_pairs : (at keys k n : ℕ) → at + 2 ≤ k → map (pair_after (from (at + 1)) at) (places_from cells keys k n) ≡ map (pair_at cells bytes) (places_from cells keys k n)
     looked_pairs at keys k zero l = refl
     looked_pairs at keys k (suc n) l =
         let on = step_ahead cells bytes k h in
-        ap₂ (λ (p : List ℕ × Tree) (ps : List (List ℕ × Tree)). p ∷ ps) (looked_pair at k l) (looked_pairs at keys (place_behind cells k + keys) n (omega arith))
+        ap₂ (λ (p : List ℕ × Tree) (ps : List (List ℕ × Tree)). p ∷ ps) (looked_pair at k l) (looked_pairs at keys (place_after cells k + keys) n (omega arith))
 
     -- a tree is at a place and takes the cells up to an end
     record Stood (at : ℕ) (t : Tree) (end : ℕ) : Type 0 where
       is_tree : tree_at_cell cells bytes at ≡ t
-      is_end : place_behind cells at ≡ end
+      is_end : place_after cells at ≡ end
 
     stood_at : (at end : ℕ) (t : Tree) (c : Cell) → slice_get cells at ≡ Some c → tree_of_cell cells bytes at (from (at + 1)) c ≡ t → after_subtree at c ≡ end → Stood at t end
     stood_at at end t c e f g =
@@ -118,7 +118,7 @@ module _ (cells : List Cell) (bytes : List ℕ) where
         }
 
     stood_number : (o : Option ℤ) (at end : ℕ) (l : List ℕ) → spells_number o cells bytes at l → end ≡ at + 1 → Stood at (num l) end
-    stood_number (Some n) at end l (e, t) g = stood_at at end (num l) (integer_cell n) e (integer_tree cells bytes at (from (at + 1)) n ∙ ap num (sym t)) (integer_behind at n ∙ sym g)
+    stood_number (Some n) at end l (e, t) g = stood_at at end (num l) (integer_cell n) e (integer_tree cells bytes at (from (at + 1)) n ∙ ap num (sym t)) (integer_after at n ∙ sym g)
     stood_number None at end l (start, e, t) g = stood_at at end (num l) (cell.Raw start (length l)) e (ap num t) (sym g)
 
     stood_text : (at : ℕ) (s : List ℕ) → spells_text cells bytes at s → Stood at (text s) (at + 1)
@@ -142,7 +142,7 @@ module _ (cells : List Cell) (bytes : List ℕ) where
       stood_row at end no_trees e = refl
       stood_row at end (tree_and t ts) (mid, s, r) =
           let here = stood at mid t s in
-          let next : place_behind cells at + 0 ≡ mid = omega (arith, here.is_end) in
+          let next : place_after cells at + 0 ≡ mid = omega (arith, here.is_end) in
           ap (map (tree_at_cell cells bytes)) (places_more cells 0 (1 + trees_count ts) (trees_count ts) at refl)
           ∙ ap₂ (λ (u : Tree) (us : List Tree). u ∷ us) here.is_tree (ap (λ (k : ℕ). map (tree_at_cell cells bytes) (places_from cells 0 k (trees_count ts))) next ∙ stood_row mid end ts r)
 
@@ -153,7 +153,7 @@ module _ (cells : List Cell) (bytes : List ℕ) where
           let key = stood_text at k f in
           let here = stood (at + 1) mid t s in
           let before : (at + 1) - 1 ≡ at = omega arith in
-          let next : place_behind cells (at + 1) + 1 ≡ mid + 1 = omega (arith, here.is_end) in
+          let next : place_after cells (at + 1) + 1 ≡ mid + 1 = omega (arith, here.is_end) in
           let is_key : text_of_tree (tree_at_cell cells bytes ((at + 1) - 1)) ≡ k = ap (λ (i : ℕ). text_of_tree (tree_at_cell cells bytes i)) before ∙ ap text_of_tree key.is_tree in
           let first : pair_at cells bytes (at + 1) ≡ (k, t) = ap₂ (λ (x : List ℕ) (u : Tree). (x, u)) is_key here.is_tree in
           ap (map (pair_at cells bytes)) (places_more cells 1 (1 + pairs_count ps) (pairs_count ps) (at + 1) refl)

@@ -11,11 +11,11 @@ use Rattle.json_text.specs.declared.event.Event.{Event}
 use Rattle.json_text.specs.declared.event.Event.TheVariants as event
 use Rattle.json_text.specs.Events.{Means, raw_size}
 use Rattle.json_text.specs.Faults.{IsInValue}
-use Rattle.json_text.specs.Parsing.{ParserState, input, HasGiven, SameInput, IsWhole, HasRead, Goes, IsTight, IsDue}
+use Rattle.json_text.specs.Parsing.{ParserState, input, HasGiven, SameInput, IsWhole, HasRead, AdvancesTo, IsTight, IsDue}
 use Rattle.json_grammar.specs.TokenStates.{TokenState, Expected, nothing, initial_state, state_in, after_tokens, Accepts, BeginsTree}
 use Rattle.json_doc.specs.Recorded.{visitor_state, Holds, SameRoom}
 use Rattle.json_doc.specs.Reading.{EventIsNumber, HasRoomFor, Follows}
-use Rattle.json_doc.specs.OneValue.{TokenBeginsValue, levels_behind, ReadsValue, RefusesValue}
+use Rattle.json_doc.specs.OneValue.{TokenBeginsValue, open_levels_after, ReadsValue, RefusesValue}
 use Rattle.json_doc.specs.declared.document_visitor.DocumentVisitor.{DocumentVisitor}
 use Rattle.json_grammar.proofs.TokenStates.{after_append, Agrees, agrees}
 use Rattle.json_grammar.proofs.TokenPrefixes.{begins_accepted, whole_tree}
@@ -70,15 +70,15 @@ module _ {old p : ParserState} {first here : Event} {v : DocumentVisitor} {level
   pub number_here : EventIsNumber here
   number_here =
       let h : HasGiven p ((k.before ++ k.us) ++ k.token ∷ []) = subst (HasGiven p) (sym (append_assoc k.before k.us (k.token ∷ []))) k.given in
-      event_number here k.token (take h.base (input p)) p.open_kinds p.spot (k.before ++ k.us) k.means h.given.at
+      event_number here k.token (take h.base (input p)) p.open_kinds p.expected (k.before ++ k.us) k.means h.given.at
 
   -- after its token
   abbrev state_here : TokenState
   state_here = after_tokens initial_state (k.us ++ k.token ∷ [])
 
-  pub levels_here : length state_here.opened ≡ levels_behind k.token levels
+  pub levels_here : length state_here.opened ≡ open_levels_after k.token levels
   levels_here =
-      ap (λ (s : TokenState). length s.opened) (after_append initial_state k.us (k.token ∷ [])) ∙ levels_step k.token (after_tokens initial_state k.us) ∙ ap (levels_behind k.token) k.open_levels
+      ap (λ (s : TokenState). length s.opened) (after_append initial_state k.us (k.token ∷ [])) ∙ levels_step k.token (after_tokens initial_state k.us) ∙ ap (open_levels_after k.token) k.open_levels
 
   pub agrees_here : Agrees state_here
   agrees_here =
@@ -107,7 +107,7 @@ recorded v w us x held room same f =
     let h = f.held full in
     (full, h, h.counted ∙ count ∙ ap (λ n. n + token_nodes x) (sym held.counted))
 
-levels_few : (x : Token) (n m : ℕ) → n ≤ m → levels_behind x n ≤ m + token_nodes x
+levels_few : (x : Token) (n m : ℕ) → n ≤ m → open_levels_after x n ≤ m + token_nodes x
 levels_few null_token n m h = omega arith
 levels_few (boolean_token b) n m h = omega arith
 levels_few (num_token l) n m h = omega arith
@@ -119,7 +119,7 @@ levels_few (key_token s) n m h = omega arith
 whole_state : (s : TokenState) → s.opened ≡ [] → s.expected ≡ nothing → s ≡ state_in []
 whole_state s e f = ap₂ (λ (o : List Kind) (x : Expected). let r : TokenState = record { opened = o; expected = x } in r) e f
 
-module _ {old p : ParserState} {first here : Event} {v : DocumentVisitor} {levels more : ℕ} (k : Records old p first here v levels) (behind : more ≡ levels_behind k.token levels) where
+module _ {old p : ParserState} {first here : Event} {v : DocumentVisitor} {levels more : ℕ} (k : Records old p first here v levels) (behind : more ≡ open_levels_after k.token levels) where
   pub records_end : (w : DocumentVisitor) → Holds w (k.us ++ k.token ∷ []) → more ≡ 0 → (t : Tree) × ReadsValue old first t p × Holds w (tokens t)
   records_end w held z =
       let e = nil_from_length (state_here k).opened (levels_here k ∙ sym behind ∙ z) in
@@ -148,7 +148,7 @@ module _ {old p : ParserState} {first here : Event} {v : DocumentVisitor} {level
 
   -- another event was handed out
   pub records_on : (w : DocumentVisitor) → Holds w (k.us ++ k.token ∷ []) → (visitor_state w).full ≡ false → more ≤ (visitor_state w).nodes
-      → (q : ParserState) (e : Event) → (more ≡ 0 → ⊥) → (e ≡ event.End → IsWhole p) → Goes p e q → IsTight p e q → SameInput p q → q.failure ≡ None → (¬ (IsWhole p) → IsWhole q → HasRead q) → Records old q first e w more
+      → (q : ParserState) (e : Event) → (more ≡ 0 → ⊥) → (e ≡ event.End → IsWhole p) → AdvancesTo p e q → IsTight p e q → SameInput p q → q.failure ≡ None → (¬ (IsWhole p) → IsWhole q → HasRead q) → Records old q first e w more
   records_on w held full few q e z whole goes tight same unfailed read =
       let other : e ≢ event.End = λ f. still_open z (whole f) in
       let us = k.us ++ k.token ∷ [] in
@@ -178,7 +178,7 @@ module _ {old p : ParserState} {first here : Event} {v : DocumentVisitor} {level
         read = λ r. read (still_open z);
       }
 
-few_open : (x : Token) (n m l : ℕ) → n ≤ m → l ≡ m + token_nodes x → levels_behind x n ≤ l
+few_open : (x : Token) (n m l : ℕ) → n ≤ m → l ≡ m + token_nodes x → open_levels_after x n ≤ l
 few_open x n m l h e = let f = levels_few x n m h in omega arith
 
 -- the event was recorded where room was made for it
@@ -186,7 +186,7 @@ pub here_recorded : {old p : ParserState} {first here : Event} {v : DocumentVisi
     → ((ts : List Token) → Holds v ts → Holds roomy ts) → roomy.full ≡ v.full → (visitor_state roomy).nodes + 1 ≤ (visitor_state roomy).cell_room
     → bytes ≡ raw_size here → (visitor_state roomy).bytes + bytes ≤ (visitor_state roomy).text_room → SameRoom roomy w
     → ((x : Token) (ts : List Token) → Means here x → Follows roomy ts → BeginsTree (ts ++ x ∷ []) → HasRoomFor roomy (raw_size here) → Follows w (ts ++ x ∷ []))
-    → Holds w (k.us ++ k.token ∷ []) × ((visitor_state w).full ≡ false) × (levels_behind k.token levels ≤ (visitor_state w).nodes)
+    → Holds w (k.us ++ k.token ∷ []) × ((visitor_state w).full ≡ false) × (open_levels_after k.token levels ≤ (visitor_state w).nodes)
 here_recorded {here = here} {levels = levels} k roomy w bytes holds full nodes size room same follows =
     let held = holds k.us k.held in
     let open_still : (visitor_state roomy).full ≡ false = full ∙ k.admits in

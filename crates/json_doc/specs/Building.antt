@@ -14,15 +14,15 @@ nowhere = 4294967295
 
 -- p is the place of the innermost open container, and n counts its elements, or its keys and values, so far. Its cell keeps the place and the count of the container around
 -- it until it ends, and its children follow. The state s is that after the tokens ts.
-pub data Building (bytes : List ℕ) : List Cell → ℕ → ℕ → TokenState → List Token → Type 0 where
-  nothing : Building bytes [] nowhere 0 initial_state []
-  whole : {cs : List Cell} (t : Tree) → node bytes 0 cs t → Building bytes cs nowhere 1 (state_in []) (tokens t)
+pub data BuilderState (bytes : List ℕ) : List Cell → ℕ → ℕ → TokenState → List Token → Type 0 where
+  nothing : BuilderState bytes [] nowhere 0 initial_state []
+  whole : {cs : List Cell} (t : Tree) → node bytes 0 cs t → BuilderState bytes cs nowhere 1 (state_in []) (tokens t)
   in_array : {front : List Cell} {p n : ℕ} {s : TokenState} {ts : List Token} (cs : List Cell) (us : Trees)
-      → Building bytes front p n s ts → ValueMayCome s.expected → trees_row bytes (length front + 1) cs us
-      → Building bytes (front ++ cell.Array p n ∷ cs) (length front) (trees_count us) (state_in (array ∷ s.opened)) (ts ++ begin array ∷ trees_tokens us)
+      → BuilderState bytes front p n s ts → ValueMayCome s.expected → trees_row bytes (length front + 1) cs us
+      → BuilderState bytes (front ++ cell.Array p n ∷ cs) (length front) (trees_count us) (state_in (array ∷ s.opened)) (ts ++ begin array ∷ trees_tokens us)
   in_object : {front : List Cell} {p n : ℕ} {s : TokenState} {ts : List Token} (cs : List Cell) (us : Pairs)
-      → Building bytes front p n s ts → ValueMayCome s.expected → pairs_row bytes (length front + 1) cs us
-      → Building bytes (front ++ cell.Object p n ∷ cs) (length front) (2 * pairs_count us) (state_in (object ∷ s.opened)) (ts ++ begin object ∷ pairs_tokens us)
+      → BuilderState bytes front p n s ts → ValueMayCome s.expected → pairs_row bytes (length front + 1) cs us
+      → BuilderState bytes (front ++ cell.Object p n ∷ cs) (length front) (2 * pairs_count us) (state_in (object ∷ s.opened)) (ts ++ begin object ∷ pairs_tokens us)
   in_pair : {front : List Cell} {p n : ℕ} {s : TokenState} {ts : List Token} {key : Cell} (cs : List Cell) (us : Pairs) (k : List ℕ)
-      → Building bytes front p n s ts → ValueMayCome s.expected → pairs_row bytes (length front + 1) cs us → text_cell bytes key k
-      → Building bytes (front ++ cell.Object p n ∷ (cs ++ key ∷ [])) (length front) (2 * pairs_count us + 1) (record { opened = object ∷ s.opened; expected = a_value }) (ts ++ begin object ∷ (pairs_tokens us ++ key_token k ∷ []))
+      → BuilderState bytes front p n s ts → ValueMayCome s.expected → pairs_row bytes (length front + 1) cs us → text_cell bytes key k
+      → BuilderState bytes (front ++ cell.Object p n ∷ (cs ++ key ∷ [])) (length front) (2 * pairs_count us + 1) (record { opened = object ∷ s.opened; expected = a_value }) (ts ++ begin object ∷ (pairs_tokens us ++ key_token k ∷ []))

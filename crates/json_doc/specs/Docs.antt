@@ -1,7 +1,7 @@
 -- What clauses see of a document.
 use Rattle.std.specs.Prelude.{ℕ, List, string_bytes}
 use Rattle.json_grammar.specs.Tree.{Tree}
-use Rattle.json_doc.specs.Spells.{StandsFor}
+use Rattle.json_doc.specs.Spells.{CellsDenote}
 use Rattle.json_doc.specs.Trees.{tree_at_cell}
 use Rattle.json_doc.specs.declared.cell.Cell.{Cell}
 use Rattle.json_doc.specs.declared.doc.Doc.{Doc}
@@ -20,7 +20,7 @@ doc_root d = d.root
 
 -- it represents a tree
 abbrev pub IsDocOf : Doc → Tree → Type 0
-IsDocOf d t = StandsFor (doc_cells d) (doc_text d) (doc_root d) t
+IsDocOf d t = CellsDenote (doc_cells d) (doc_text d) (doc_root d) t
 
 -- the tree at a place
 abbrev pub doc_tree : Doc → ℕ → Tree

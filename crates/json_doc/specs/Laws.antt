@@ -1,7 +1,7 @@
 -- Laws of documents.
 use Rattle.std.specs.Prelude.{◌≡◌, ℕ, ◌+◌, ◌/◌, ◌<◌, ◌≤◌, List, ◌∷◌, ◌++◌, length, Bool, false}
 use Rattle.json_grammar.specs.declared.Kind.{Kind}
-use Rattle.json_grammar.specs.declared.Spot.{Spot}
+use Rattle.json_grammar.specs.declared.ExpectedPart.{ExpectedPart}
 use Rattle.json_grammar.specs.Tree.{Tree, Token, tokens}
 use Rattle.json_grammar.specs.Grammar.{is_text}
 use Rattle.json_grammar.specs.Proper.{IsProper}
@@ -28,12 +28,12 @@ TreesAreProper d = (at : ℕ) → at < length (doc_cells d) → IsProper (doc_tr
 
 -- what is read of a prefix begins the tokens of a tree
 abbrev pub ReadingBegins : Type 0
-ReadingBegins = (lossy : Bool) (p : List ℕ) (c : List Kind) (w : Spot) (ts : List Token) → reading lossy p c w ts → BeginsTree ts
+ReadingBegins = (lossy : Bool) (p : List ℕ) (c : List Kind) (w : ExpectedPart) (ts : List Token) → reading lossy p c w ts → BeginsTree ts
 
 -- a builder with the room that a text asks for records each event of the text: after the bytes p,
 -- it adds at most one node, and m of the bytes r that follow
 abbrev pub EventsFitRoom : Type 0
 EventsFitRoom =
-    (lossy : Bool) (v : DocumentVisitor) (p r : List ℕ) (c : List Kind) (w : Spot) (ts more : List Token) (x : Token) (t : Tree) (m : ℕ)
+    (lossy : Bool) (v : DocumentVisitor) (p r : List ℕ) (c : List Kind) (w : ExpectedPart) (ts more : List Token) (x : Token) (t : Tree) (m : ℕ)
     → (visitor_state v).full ≡ false → (length (p ++ r) + 1) / 2 ≤ (visitor_state v).cell_room → length (p ++ r) ≤ (visitor_state v).text_room
     → Holds v ts → reading lossy p c w ts → is_text lossy t (p ++ r) → tokens t ≡ ts ++ x ∷ more → m ≤ length r → Fits (visitor_state v) (token_nodes x) m

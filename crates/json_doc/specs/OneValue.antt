@@ -13,10 +13,10 @@ abbrev pub TokenBeginsValue : Token → Type 0
 TokenBeginsValue x = MayCome initial_state x
 
 -- how many containers are open after a token, where n were before it
-abbrev pub levels_behind : Token → ℕ → ℕ
-levels_behind (begin k) n = n + 1
-levels_behind (end k) n = n - 1
-levels_behind _ n = n
+abbrev pub open_levels_after : Token → ℕ → ℕ
+open_levels_after (begin k) n = n + 1
+open_levels_after (end k) n = n - 1
+open_levels_after _ n = n
 
 -- the event is of the token that was handed out last, which begins a value
 pub record HandedOut (p : ParserState) (first : Event) : Type 0 where

@@ -52,13 +52,13 @@ pub data Around : NameList → List OuterKeys → List Keys → Type 0 where
 
 -- the names so far of each open container, the innermost first: those of the innermost are in the
 -- row from the start on, and in the set
-pub record NamesStand (few : NameList) (start : ℕ) (many : NameSet) (outer : List OuterKeys) (all : List Keys) : Type 0 where
+pub record OpenNamesHeld (few : NameList) (start : ℕ) (many : NameSet) (outer : List OuterKeys) (all : List Keys) : Type 0 where
   pub within : start ≤ length few
   pub here : AreNames (drop start few) many (innermost_keys all)
   pub outside : Around (take start few) outer all
 
 abbrev pub HasNames : OpenKeys → List Keys → Type 0
-HasNames o all = NamesStand o.few.items o.start o.many o.outer.items all
+HasNames o all = OpenNamesHeld o.few.items o.start o.many o.outer.items all
 
 abbrev pub HasSomeNames : OpenKeys → Type 0
 HasSomeNames o = (all : List Keys) × HasNames o all

@@ -9,9 +9,9 @@ abbrev pub NamesText : List Cell → List ℕ → ℕ → List ℕ → Type 0
 NamesText cells bytes at s = (c : Cell) × (slice_get cells at ≡ Some c) × text_cell bytes c s
 
 -- these members are from a place up to an end
-abbrev pub MembersStand : List Cell → List ℕ → ℕ → Pairs → ℕ → Type 0
-MembersStand cells bytes at ps end = (cs : List Cell) × SegmentAt cells at cs × pairs_row bytes at cs ps × (at + length cs ≡ end)
+abbrev pub MembersAt : List Cell → List ℕ → ℕ → Pairs → ℕ → Type 0
+MembersAt cells bytes at ps end = (cs : List Cell) × SegmentAt cells at cs × pairs_row bytes at cs ps × (at + length cs ≡ end)
 
 -- and there a key
-abbrev pub KeyStands : List Cell → List ℕ → ℕ → Pairs → ℕ → List ℕ → Type 0
-KeyStands cells bytes at ps end s = MembersStand cells bytes at ps end × NamesText cells bytes end s
+abbrev pub MembersThenKey : List Cell → List ℕ → ℕ → Pairs → ℕ → List ℕ → Type 0
+MembersThenKey cells bytes at ps end s = MembersAt cells bytes at ps end × NamesText cells bytes end s

@@ -10,18 +10,18 @@ after_subtree at (cell.Object link len) = link
 after_subtree at _ = at + 1
 
 -- the place after what is at a place
-abbrev pub place_behind : List Cell → ℕ → ℕ
-place_behind cells at = after_subtree at (slice_index_or cells at cell.Null)
+abbrev pub place_after : List Cell → ℕ → ℕ
+place_after cells at = after_subtree at (slice_index_or cells at cell.Null)
 
 -- n places, each after what is at the one before, and after the keys between them
 abbrev pub places_from : List Cell → ℕ → ℕ → ℕ → List ℕ
 places_from cells keys at zero = []
-places_from cells keys at (suc n) = at ∷ places_from cells keys (place_behind cells at + keys) n
+places_from cells keys at (suc n) = at ∷ places_from cells keys (place_after cells at + keys) n
 
 -- the place that follows n of them
 abbrev pub place_from : List Cell → ℕ → ℕ → ℕ → ℕ
 place_from cells keys at zero = at
-place_from cells keys at (suc n) = place_from cells keys (place_behind cells at + keys) n
+place_from cells keys at (suc n) = place_from cells keys (place_after cells at + keys) n
 
 -- each of n of them is that of a cell
 abbrev pub AllBelow : List Cell → ℕ → ℕ → ℕ → Type 0

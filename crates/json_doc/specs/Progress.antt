@@ -1,7 +1,7 @@
 -- What a reader of a whole text keeps.
 use Rattle.std.specs.Prelude.{◌≡◌, ℕ, ◌+◌, ◌/◌, List, length, false, None}
 use Rattle.json_grammar.specs.declared.Kind.{Kind}
-use Rattle.json_grammar.specs.declared.Spot.{Spot}
+use Rattle.json_grammar.specs.declared.ExpectedPart.{ExpectedPart}
 use Rattle.json_grammar.specs.Tree.{Token}
 use Rattle.json_text.specs.Parsing.{ParserState, state_of, HasGiven}
 use Rattle.json_doc.specs.Reading.{Follows}
@@ -22,7 +22,7 @@ pub record AreInStep (most : ℕ) (p : ParserState) (v : DocumentVisitor) (b : L
 
 -- some tokens of the text b were read up to i, where the containers c are open and the state is w,
 -- and the builder was given them
-pub record IsReading (limit : ℕ) (b : List ℕ) (i : ℕ) (c : List Kind) (w : Spot) (v : DocumentVisitor) : Type 0 where
+pub record IsReading (limit : ℕ) (b : List ℕ) (i : ℕ) (c : List Kind) (w : ExpectedPart) (v : DocumentVisitor) : Type 0 where
   pub most : ℕ
   pub so_far : List Token
   pub kept : AreInStep most (state_of b 0 false limit i c w None) v b so_far

@@ -20,9 +20,9 @@ bool_of (boolean b) = Some b
 bool_of _ = None
 
 -- the integer by value of the number
-abbrev pub integer_of : Tree → Option ℤ
-integer_of (num l) = integer_in l
-integer_of _ = None
+abbrev pub integer_in_tree : Tree → Option ℤ
+integer_in_tree (num l) = integer_in l
+integer_in_tree _ = None
 
 -- the literal, where there is no integer by value
 abbrev pub literal_unless : Option ℤ → List ℕ → Option (List ℕ)

@@ -6,7 +6,7 @@ use Rattle.json_grammar.specs.Sizes.{nodes_of}
 use Rattle.json_doc.specs.State.{VisitorState}
 use Rattle.json_grammar.specs.TokenStates.{initial_state, after_tokens}
 use Rattle.json_doc.specs.Texts.{tokens_text}
-use Rattle.json_doc.specs.Building.{Building}
+use Rattle.json_doc.specs.Building.{BuilderState}
 use Rattle.json_doc.specs.declared.cell.Cell.{Cell}
 use Rattle.json_doc.specs.declared.document_visitor.DocumentVisitor.{DocumentVisitor}
 
@@ -15,15 +15,15 @@ abbrev pub visitor_state : DocumentVisitor → VisitorState
 visitor_state v = record { cell_room = v.room; text_room = v.text_room; nodes = length v.cells.items; bytes = length v.text.items; full = v.full }
 
 -- these cells and bytes were made of the tokens ts
-pub record Held (cells : List Cell) (bytes : List ℕ) (p n : ℕ) (ts : List Token) : Type 0 where
-  pub built : Building bytes cells p n (after_tokens initial_state ts) ts
+pub record RecordsTokens (cells : List Cell) (bytes : List ℕ) (p n : ℕ) (ts : List Token) : Type 0 where
+  pub built : BuilderState bytes cells p n (after_tokens initial_state ts) ts
   pub texts : bytes ≡ tokens_text ts
   pub utf8 : IsUtf8 bytes
   pub counted : length cells ≡ nodes_of ts
 
 -- while no event was refused, the events so far were ts
 abbrev pub Holds : DocumentVisitor → List Token → Type 0
-Holds v ts = Held v.cells.items v.text.items v.parent v.count ts
+Holds v ts = RecordsTokens v.cells.items v.text.items v.parent v.count ts
 
 -- the room stays
 abbrev pub SameRoom : DocumentVisitor → DocumentVisitor → Type 0

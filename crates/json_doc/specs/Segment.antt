@@ -18,17 +18,17 @@ pub record SegmentAt {X : Type 0} (xs : List X) (at : ℕ) (ys : List X) : Type 
   pub place : length before ≡ at
 
 -- the bytes of a text are at the place at, and texts follow
-abbrev pub TextStands : List ℕ → ℕ → List ℕ → Type 0
-TextStands bytes at s = (h : SegmentAt bytes at s) × IsUtf8 s × IsUtf8 h.after
+abbrev pub TextAt : List ℕ → ℕ → List ℕ → Type 0
+TextAt bytes at s = (h : SegmentAt bytes at s) × IsUtf8 s × IsUtf8 h.after
 
 -- c names the bytes of a text
 abbrev pub text_cell : List ℕ → Cell → List ℕ → Type 0
-text_cell bytes c s = (start : ℕ) × (c ≡ cell.Str start (length s)) × TextStands bytes start s
+text_cell bytes c s = (start : ℕ) × (c ≡ cell.Str start (length s)) × TextAt bytes start s
 
 -- c is the integer, whose decimal text the literal is, or where there is none it names the bytes of the literal
 abbrev pub number_cell : Option ℤ → List ℕ → Cell → List ℕ → Type 0
 number_cell (Some n) bytes c l = (c ≡ integer_cell n) × (l ≡ signed_decimal n)
-number_cell None bytes c l = (start : ℕ) × (c ≡ cell.Raw start (length l)) × TextStands bytes start l
+number_cell None bytes c l = (start : ℕ) × (c ≡ cell.Raw start (length l)) × TextAt bytes start l
 
 -- the cells cs, from the place at on, represent a tree; each literal is a number
 abbrev mutual

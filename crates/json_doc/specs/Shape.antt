@@ -11,10 +11,10 @@ use Rattle.json_doc.specs.declared.cell.Cell.{Cell}
 use Rattle.json_doc.specs.declared.cell.Cell.TheVariants as cell
 
 -- where the bytes of a cell begin; 0 where it has none
-abbrev pub start_of : Cell → ℕ
-start_of (cell.Raw start len) = start
-start_of (cell.Str start len) = start
-start_of _ = 0
+abbrev pub first_byte : Cell → ℕ
+first_byte (cell.Raw start len) = start
+first_byte (cell.Str start len) = start
+first_byte _ = 0
 
 -- how many bytes it has
 abbrev pub span_of : Cell → ℕ
@@ -45,13 +45,13 @@ AllKeys cells at n = (i : ℕ) → i < n → is_str (slice_index_or cells (place
 -- keys are strings, literals are numbers (RFC 8259, section 6) that are no integers by value, and
 -- an integer by value is the one that its decimal text represents
 pub record CellInPlace (cells : List Cell) (bytes : List ℕ) (at : ℕ) (c : Cell) : Type 0 where
-  pub begins : IsCharBoundary bytes (start_of c)
-  pub ends : IsCharBoundary bytes (start_of c + span_of c)
+  pub begins : IsCharBoundary bytes (first_byte c)
+  pub ends : IsCharBoundary bytes (first_byte c + span_of c)
   pub ahead : at < after_subtree at c
   pub inside : (i : ℕ) → i < cell_len c → child_in cells at c i < length cells
   pub keyed : (i : ℕ) → i < keys_of c → is_str (slice_index_or cells (child_in cells at c i - 1) cell.Null) ≡ true
-  pub numeric : is_raw c ≡ true → ∥ number (slice_range bytes (start_of c) (start_of c + span_of c)) ∥₁
-  pub raw : is_raw c ≡ true → integer_in (slice_range bytes (start_of c) (start_of c + span_of c)) ≡ None
+  pub numeric : is_raw c ≡ true → ∥ number (slice_range bytes (first_byte c) (first_byte c + span_of c)) ∥₁
+  pub raw : is_raw c ≡ true → integer_in (slice_range bytes (first_byte c) (first_byte c + span_of c)) ≡ None
   pub valued : (n : ℤ) → value_of_cell c ≡ Some n → integer_in (signed_decimal n) ≡ Some n
 
 -- so is each cell

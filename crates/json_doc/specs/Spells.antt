@@ -44,7 +44,7 @@ abbrev mutual
   spells_pairs cells bytes at (pair_and k t ps) end = (mid : ℕ) × spells_text cells bytes at k × spells cells bytes (at + 1) t mid × spells_pairs cells bytes mid ps end
 
 -- cells and bytes represent a tree, from the first cell on, with nothing besides
-pub record StandsFor (cells : List Cell) (bytes : List ℕ) (root : ℕ) (t : Tree) : Type 0 where
+pub record CellsDenote (cells : List Cell) (bytes : List ℕ) (root : ℕ) (t : Tree) : Type 0 where
   pub first : root ≡ 0
   pub spelled : spells cells bytes root t (length cells)
   pub counted : length cells ≡ nodes t

@@ -12,12 +12,12 @@ text_of_tree (text s) = s
 text_of_tree _ = []
 
 -- the tree at the place k, out of those of all cells after the place at
-abbrev pub tree_behind : List Tree → ℕ → ℕ → Tree
-tree_behind ts at k = slice_index_or ts (k - (at + 1)) null
+abbrev pub tree_after : List Tree → ℕ → ℕ → Tree
+tree_after ts at k = slice_index_or ts (k - (at + 1)) null
 
 -- the value at the place k, and its key before it
-abbrev pub pair_behind : List Tree → ℕ → ℕ → List ℕ × Tree
-pair_behind ts at k = (text_of_tree (tree_behind ts at (k - 1)), tree_behind ts at k)
+abbrev pub pair_after : List Tree → ℕ → ℕ → List ℕ × Tree
+pair_after ts at k = (text_of_tree (tree_after ts at (k - 1)), tree_after ts at k)
 
 -- what the cell c at a place represents, over the trees of the cells after it
 abbrev pub tree_of_cell : List Cell → List ℕ → ℕ → List Tree → Cell → Tree
@@ -27,8 +27,8 @@ tree_of_cell cells bytes at ts (cell.Unsigned n) = num (signed_decimal (pos n))
 tree_of_cell cells bytes at ts (cell.Negative n) = num (signed_decimal n)
 tree_of_cell cells bytes at ts (cell.Raw start len) = num (slice_range bytes start (start + len))
 tree_of_cell cells bytes at ts (cell.Str start len) = text (slice_range bytes start (start + len))
-tree_of_cell cells bytes at ts (cell.Array link len) = list (list_trees (map (tree_behind ts at) (places_from cells 0 (at + 1) len)))
-tree_of_cell cells bytes at ts (cell.Object link len) = pairs (list_pairs (map (pair_behind ts at) (places_from cells 1 (at + 2) len)))
+tree_of_cell cells bytes at ts (cell.Array link len) = list (list_trees (map (tree_after ts at) (places_from cells 0 (at + 1) len)))
+tree_of_cell cells bytes at ts (cell.Object link len) = pairs (list_pairs (map (pair_after ts at) (places_from cells 1 (at + 2) len)))
 
 -- the trees of the cells cs, which begin at a place
 unfoldable pub trees_from : List Cell → List ℕ → ℕ → List Cell → List Tree

@@ -4,7 +4,7 @@ ghost use Rattle.json_grammar.specs.Tree.{Token};
 ghost use Rattle.json_text.specs.Due.{NextNeeds};
 ghost use Rattle.json_text.specs.Events.{Means, raw_size};
 ghost use Rattle.json_text.specs.Faults.{IsFault};
-ghost use Rattle.json_text.specs.Steps.{Advances, StandsBehindGap};
+ghost use Rattle.json_text.specs.Steps.{Advances, TokenAfterGap};
 ghost use Rattle.json_text.specs.declared.event.Event.TheVariants as Event;
 ghost use Rattle.json_grammar.specs.TokenStates.{BeginsTree};
 ghost use Rattle.json_doc.specs.Progress.{IsReading};
@@ -12,9 +12,9 @@ ghost use Rattle.json_doc.specs.Reading.{HasRoomFor, Follows};
 ghost use Rattle.json_doc.specs.Recorded.{SameRoom};
 
 use crate::document_visitor::DocumentVisitor;
-use crate::reader::{lent_from, record_event};
-use json_grammar::{Kind, Spot};
-use json_text::{Cursor, Event, Fault, Kinds, Read, step};
+use crate::reader::{record_event, start_offset};
+use json_grammar::{ExpectedPart, Kind};
+use json_text::{ContainerStack, Cursor, Event, Fault, TokenRead, step};
 
 // Reads the next event of a text as `step` does, and records it. Each use has a copy of its own.
 #[inline(always)]
@@ -23,14 +23,14 @@ fn advance<'a, const USE: u8>(
     text: &'a str,
     cursor: Cursor,
     limit: usize,
-    kinds: &mut Kinds,
-) -> Result<Read<'a>, Fault>
-    requires kept { IsReading limit text.now cursor.at kinds.old cursor.spot visitor.old }
+    kinds: &mut ContainerStack,
+) -> Result<TokenRead<'a>, Fault>
+    requires kept { IsReading limit text.now cursor.at kinds.old cursor.expected visitor.old }
     requires most { limit ≤ 1024 }
     ensures ok { IfOk result (λ r.
-        Advances false limit text.now cursor.at kinds.old cursor.spot
-        r.event r.end kinds.new r.spot) }
-    ensures tight { IfOk result (λ r. StandsBehindGap false text.now cursor.at r.event r.end) }
+        Advances false limit text.now cursor.at kinds.old cursor.expected
+        r.event r.end kinds.new r.expected) }
+    ensures tight { IfOk result (λ r. TokenAfterGap false text.now cursor.at r.event r.end) }
     ensures err { IfErr result (λ f. IsFault false limit text.now f.code f.offset) }
     ensures needs { IfErr result (λ f. NextNeeds false text.now cursor.at f.code f.offset) }
     ensures recorded { IfOk result (λ r. (x : Token) (ts : List Token) → Means r.event x
@@ -44,7 +44,7 @@ fn advance<'a, const USE: u8>(
         Ok(read) => match read.event {
             Event::End => Ok(read),
             event => {
-                let from = lent_from(event, read.end);
+                let from = start_offset(event, read.end);
                 let _recorded = record_event::<USE>(visitor, event, text.as_bytes(), from);
                 Ok(read)
             }
@@ -56,19 +56,19 @@ fn advance<'a, const USE: u8>(
 // The same, by a copy for each of what may follow, and after a value for each kind of container, so
 // that each of them leaves out what cannot follow there.
 #[inline(always)]
-pub(crate) fn advance_by_spot<'a>(
+pub(crate) fn advance_by_expected<'a>(
     visitor: &mut DocumentVisitor,
     text: &'a str,
     cursor: Cursor,
     limit: usize,
-    kinds: &mut Kinds,
-) -> Result<Read<'a>, Fault>
-    requires kept { IsReading limit text.now cursor.at kinds.old cursor.spot visitor.old }
+    kinds: &mut ContainerStack,
+) -> Result<TokenRead<'a>, Fault>
+    requires kept { IsReading limit text.now cursor.at kinds.old cursor.expected visitor.old }
     requires most { limit ≤ 1024 }
     ensures ok { IfOk result (λ r.
-        Advances false limit text.now cursor.at kinds.old cursor.spot
-        r.event r.end kinds.new r.spot) }
-    ensures tight { IfOk result (λ r. StandsBehindGap false text.now cursor.at r.event r.end) }
+        Advances false limit text.now cursor.at kinds.old cursor.expected
+        r.event r.end kinds.new r.expected) }
+    ensures tight { IfOk result (λ r. TokenAfterGap false text.now cursor.at r.event r.end) }
     ensures err { IfErr result (λ f. IsFault false limit text.now f.code f.offset) }
     ensures needs { IfErr result (λ f. NextNeeds false text.now cursor.at f.code f.offset) }
     ensures recorded { IfOk result (λ r. (x : Token) (ts : List Token) → Means r.event x
@@ -78,15 +78,17 @@ pub(crate) fn advance_by_spot<'a>(
         → SameRoom visitor.old visitor.new) }
     ensures at_end { IfOk result (λ r. r.event ≡ Event.End → visitor.new ≡ visitor.old) }
 {
-    match cursor.spot {
-        Spot::First => advance::<2>(visitor, text, cursor, limit, kinds),
-        Spot::KeyOrEnd => advance::<3>(visitor, text, cursor, limit, kinds),
-        Spot::Colon => advance::<4>(visitor, text, cursor, limit, kinds),
-        Spot::Done => match kinds.top() {
+    match cursor.expected {
+        ExpectedPart::First => advance::<2>(visitor, text, cursor, limit, kinds),
+        ExpectedPart::KeyOrEnd => advance::<3>(visitor, text, cursor, limit, kinds),
+        ExpectedPart::Colon => advance::<4>(visitor, text, cursor, limit, kinds),
+        ExpectedPart::Done => match kinds.top() {
             Some(Kind::Array) => advance::<5>(visitor, text, cursor, limit, kinds),
             Some(Kind::Object) => advance::<7>(visitor, text, cursor, limit, kinds),
             None => advance::<8>(visitor, text, cursor, limit, kinds),
         },
-        Spot::Value | Spot::Key => advance::<6>(visitor, text, cursor, limit, kinds),
+        ExpectedPart::Value | ExpectedPart::Key => advance::<6>(
+            visitor, text, cursor, limit, kinds,
+        ),
     }
 }

@@ -76,7 +76,7 @@ impl Cell {
 
     // The position after this cell and all its descendants, where the cell is at `at`.
     #[inline(always)]
-    pub(crate) fn behind(self, at: usize) -> usize
+    pub(crate) fn next_at(self, at: usize) -> usize
         requires { at < 2 ^ 32 }
         ensures is { result ≡ after_subtree at self }
         ensures small { result ≤ 2 ^ 32 }

@@ -31,7 +31,7 @@ impl Doc {
     ghost use Rattle.std.specs.Prelude.{◌≡◌, ◌≤◌, ◌+◌};
     ghost use Rattle.json_doc.specs.Docs.{doc_cells, doc_text, doc_root, doc_tree};
     ghost use Rattle.json_doc.specs.Seen.{view_doc, view_place, view_tree};
-    ghost use Rattle.json_doc.specs.Places.{AllBelow, place_behind, place_from};
+    ghost use Rattle.json_doc.specs.Places.{AllBelow, place_after, place_from};
 
     /// Returns the cells, one for each node and each key.
     #[inline]
@@ -83,10 +83,10 @@ impl Doc {
     #[inline(always)]
     pub(crate) fn place_behind(&self, at: usize) -> usize
         requires { at < length (doc_cells self.now) }
-        ensures is { result ≡ place_behind (doc_cells self.now) at }
+        ensures is { result ≡ place_after (doc_cells self.now) at }
         ensures small { result ≤ 2 ^ 32 }
     {
-        self.cells[at].behind(at)
+        self.cells[at].next_at(at)
     }
 
     // The position after that many children, each after that many keys: a step for each of them.

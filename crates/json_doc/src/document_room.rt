@@ -13,7 +13,8 @@ use crate::cell::Cell;
 use crate::doc::Doc;
 use crate::document_visitor::DocumentVisitor;
 use crate::reader::read_by;
-use json_text::{Result, Rules};
+use json_io::Result;
+use json_text::Rules;
 use std::alloc::Global;
 use std::mem;
 

@@ -10,7 +10,8 @@ mod room;
 use crate::cell::Cell;
 use crate::doc::Doc;
 use crate::visitor::JsonVisitor;
-use json_text::{Result, Span, extend_reserved_blocks, extend_reserved_from};
+use json_io::{Result, extend_reserved_blocks, extend_reserved_from};
+use json_text::Span;
 use std::alloc::Global;
 use std::rc::Rc;
 
@@ -54,7 +55,7 @@ impl DocumentVisitor {
     ghost use Rattle.json_grammar.specs.Repeated.{names, open_keys};
     ghost use Rattle.json_io.specs.Errors.{OnlyNoMemory};
     ghost use Rattle.json_doc.specs.Docs.{IsDocOf};
-    ghost use Rattle.json_doc.specs.OpenObject.{NamesText, KeyStands};
+    ghost use Rattle.json_doc.specs.OpenObject.{NamesText, MembersThenKey};
     ghost use Rattle.json_doc.specs.State.{VisitorState, Fits};
     ghost use Rattle.json_doc.specs.Recorded.{visitor_state, Holds, SameRoom, TakesNoMemory};
     ghost use Rattle.json_doc.specs.OpenCells.{outer_place, outer_count};
@@ -292,9 +293,9 @@ impl DocumentVisitor {
     // Whether one of the keys from a place on is the key at the last.
     fn has_key(&self, first: usize, last: usize) -> bool
         requires { (ps : Pairs) × (s : List ℕ)
-            × KeyStands self.now.cells.items self.now.text.items first ps last s }
+            × MembersThenKey self.now.cells.items self.now.text.items first ps last s }
         ensures { (ps : Pairs) (s : List ℕ)
-            → KeyStands self.now.cells.items self.now.text.items first ps last s
+            → MembersThenKey self.now.cells.items self.now.text.items first ps last s
             → IsTrue result ↔ Contains (names ps) s }
     {
         let key = self.text_at(last);
@@ -303,7 +304,7 @@ impl DocumentVisitor {
             if self.text_at(at) == key {
                 return true;
             }
-            at = self.cells[at + 1].behind(at + 1);
+            at = self.cells[at + 1].next_at(at + 1);
         }
         false
     }

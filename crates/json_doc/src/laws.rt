@@ -4,7 +4,7 @@ ghost use Rattle.json_doc.specs.Laws.{OneTreeOfDoc, TreeAtRoot, TreesAreProper, 
 use crate::doc::Doc;
 
 /// A document denotes at most one tree.
-pub fn one_tree()
+pub fn document_has_one_tree()
     ensures { OneTreeOfDoc }
 {}
 
@@ -25,6 +25,6 @@ pub fn reading_begins()
 {}
 
 /// A builder made for a text refuses none of its events.
-pub fn events_fit()
+pub fn builder_has_room()
     ensures { EventsFitRoom }
 {}

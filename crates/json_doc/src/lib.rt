@@ -38,6 +38,6 @@ pub use node::DocNode;
 pub use open_keys::front_number;
 pub use pairs::DocPairs;
 pub use reader::{read_document, read_document_with, read_front};
-pub use value_reader::read_value;
+pub use value_reader::read_following_value;
 pub use view::DocView;
 pub use visitor::JsonVisitor;

@@ -7,7 +7,8 @@ ghost use Rattle.json_grammar.specs.Repeated.{Keys, outer_keys};
 ghost use Rattle.json_io.specs.Errors.{OnlyNoMemory};
 ghost use Rattle.json_doc.specs.OpenNames.{front_of, row_has, names_have, HasNames, HasSomeNames, TakesIn};
 
-use json_text::{Result, Span};
+use json_io::Result;
+use json_text::Span;
 use std::alloc::Global;
 use std::borrow::CowStr;
 use std::collections::BTreeSet;
@@ -18,7 +19,7 @@ const FEW: usize = 16;
 
 // A byte, or 0 after the end.
 #[inline(always)]
-fn byte_at(bytes: &[u8], at: usize) -> u8
+fn byte_or_zero(bytes: &[u8], at: usize) -> u8
     ensures { result ≡ get_or bytes.now at 0 }
 {
     match bytes.get(at) {
@@ -42,14 +43,14 @@ pub fn front_number(name: &str) -> u64
 {
     let bytes = name.as_bytes();
     u64::from_be_bytes([
-        byte_at(bytes, 0),
-        byte_at(bytes, 1),
-        byte_at(bytes, 2),
-        byte_at(bytes, 3),
-        byte_at(bytes, 4),
-        byte_at(bytes, 5),
-        byte_at(bytes, 6),
-        byte_at(bytes, 7),
+        byte_or_zero(bytes, 0),
+        byte_or_zero(bytes, 1),
+        byte_or_zero(bytes, 2),
+        byte_or_zero(bytes, 3),
+        byte_or_zero(bytes, 4),
+        byte_or_zero(bytes, 5),
+        byte_or_zero(bytes, 6),
+        byte_or_zero(bytes, 7),
     ])
 }
 

@@ -6,7 +6,7 @@ ghost use Rattle.json_grammar.specs.Fault.{reads};
 ghost use Rattle.json_grammar.specs.Rules.{fits};
 ghost use Rattle.json_io.specs.Errors.{no_memory};
 ghost use Rattle.json_text.specs.Events.{Means, raw_size, event_bytes};
-ghost use Rattle.json_text.specs.Parsing.{input, taken, HasGiven, IsWhole, SameInput};
+ghost use Rattle.json_text.specs.Parsing.{input, consumed, HasGiven, IsWhole, SameInput};
 ghost use Rattle.json_io.specs.Positions.{place_at};
 ghost use Rattle.json_text.specs.Ruled.{rules_of};
 ghost use Rattle.json_grammar.specs.TokenStates.{BeginsTree};
@@ -17,15 +17,16 @@ ghost use Rattle.json_doc.specs.Reading.{ReadingFails, FrontFails, RefusesName, 
 ghost use Rattle.json_doc.specs.OpenNames.{HasSomeNames, TakesIn, Differ};
 ghost use Rattle.json_doc.specs.Docs.{IsDocOf};
 
-use crate::advance::advance_by_spot;
+use crate::advance::advance_by_expected;
 use crate::doc::Doc;
 use crate::document_visitor::DocumentVisitor;
 use crate::open_keys::OpenKeys;
 use crate::value_reader::record_value;
 use crate::visitor::JsonVisitor;
-use json_grammar::Spot;
+use json_grammar::ExpectedPart;
+use json_io::{Error, ErrorCode, Result, place_of};
 use json_number::{Integer, integer_of_in};
-use json_text::{Cursor, Error, ErrorCode, Event, Kinds, Parser, Result, Rules, Span, place_of};
+use json_text::{ContainerStack, Cursor, Event, Parser, Rules, Span};
 use std::alloc::Global;
 use std::rc::Rc;
 
@@ -87,7 +88,7 @@ pub(crate) fn record_event<const USE: u8>(
 // Where the text between the quotes of a string or a name begins, or a literal, if `end` is the
 // offset after the token.
 #[inline(always)]
-pub(crate) fn lent_from(event: Event<'_>, end: usize) -> usize
+pub(crate) fn start_offset(event: Event<'_>, end: usize) -> usize
     requires { length (event_bytes event) ≤ end }
     ensures { result ≡ from_of event.entry end }
 {
@@ -101,7 +102,7 @@ pub(crate) fn lent_from(event: Event<'_>, end: usize) -> usize
 // The error of a name that repeats. `end` is the offset after it.
 #[cold]
 #[inline(never)]
-fn repeated(name: Span<'_>, text: &str, end: usize) -> Error
+fn repeated_name_error(name: Span<'_>, text: &str, end: usize) -> Error
     requires begins { length name.raw.now + 2 ≤ end }
     requires within { end ≤ length text.now }
     ensures { result ≡ record {
@@ -133,7 +134,7 @@ fn refuse_repeated<'a>(
     match event {
         Event::Key(name) => {
             if keys.take_key(name)? {
-                return Err(repeated(name, text, end));
+                return Err(repeated_name_error(name, text, end));
             }
         }
         Event::BeginArray | Event::BeginObject => keys.begin()?,
@@ -189,12 +190,12 @@ pub(crate) fn read_by(
     let mut visitor = builder;
     let mut keys = OpenKeys::new(alloc);
     let limit = rules.depth() as usize;
-    let mut kinds = Kinds::new();
+    let mut kinds = ContainerStack::new();
     let mut at = 0;
-    let mut spot = Spot::Value;
+    let mut expected = ExpectedPart::Value;
     'events: loop {
-        let cursor = Cursor { at, spot };
-        let read = match advance_by_spot(&mut visitor, text, cursor, limit, &mut kinds) {
+        let cursor = Cursor { at, expected };
+        let read = match advance_by_expected(&mut visitor, text, cursor, limit, &mut kinds) {
             Ok(read) => read,
             Err(fault) => return Err(fault.error_in(text)),
         };
@@ -205,7 +206,7 @@ pub(crate) fn read_by(
             }
         }
         at = read.end;
-        spot = read.spot;
+        expected = read.expected;
     }
     Ok(visitor.into_doc())
 }
@@ -263,7 +264,7 @@ pub fn read_front(alloc: Global, parser: &mut Parser<'_>) -> Result<Rc<Doc>>
     requires { HasGiven parser.old [] }
     ensures same { SameInput parser.old parser.new }
     ensures ok { IfOk result (λ d. (t : Tree)
-        × reads parser.old.lossy (input parser.old) t (taken parser.new)
+        × reads parser.old.lossy (input parser.old) t (consumed parser.new)
         × (depth t ≤ parser.old.limit) × IsDocOf d.value t) }
     ensures done { OnOk result (IsWhole parser.new × (parser.new.failure ≡ None)) }
     ensures err { IfErr result (λ e. FrontFails parser.old e.code e.place) }

@@ -6,13 +6,14 @@ ghost use Rattle.json_text.specs.Events.{Means, raw_size};
 ghost use Rattle.json_text.specs.Parsing.{HasGiven, SameInput, KeepsHasRead};
 ghost use Rattle.json_doc.specs.Docs.{IsDocOf};
 ghost use Rattle.json_doc.specs.Lent.{EventIsLentBy};
-ghost use Rattle.json_doc.specs.OneValue.{HandedOut, ReadsValue, RefusesValue, levels_behind as spec_levels_behind};
+ghost use Rattle.json_doc.specs.OneValue.{HandedOut, ReadsValue, RefusesValue, open_levels_after as spec_levels_behind};
 ghost use Rattle.json_doc.specs.Recorded.{visitor_state, Holds};
 
 use crate::doc::Doc;
 use crate::document_visitor::DocumentVisitor;
 use crate::reader::record_event;
-use json_text::{Event, Parser, Result};
+use json_io::Result;
+use json_text::{Event, Parser};
 use std::alloc::Global;
 use std::rc::Rc;
 
@@ -42,7 +43,7 @@ fn lent_bytes(event: Event<'_>) -> &[u8]
 }
 
 // How many containers are open after the event, where `levels` were before it.
-fn levels_behind(event: Event<'_>, levels: usize) -> usize
+fn open_levels_after(event: Event<'_>, levels: usize) -> usize
     requires most { levels < 2 ^ 32 }
     ensures { (x : Token) → Means event.entry x → result ≡ spec_levels_behind x levels }
 {
@@ -76,7 +77,7 @@ pub(crate) fn record_value<'a>(
     'events: loop {
         visitor.make_room(lent_len(event))?;
         let _recorded = record_event::<HERE>(visitor, event, lent_bytes(event), 0);
-        levels = levels_behind(event, levels);
+        levels = open_levels_after(event, levels);
         if levels == 0 {
             return Ok(());
         }
@@ -89,16 +90,20 @@ pub(crate) fn record_value<'a>(
 /// and with `NoMemory` if memory runs out.
 ///
 /// ```
-/// use json_doc::read_value;
+/// use json_doc::read_following_value;
 /// use json_text::{Event, Parser};
 /// let mut parser = Parser::new("[1, [2, 3], 4]");
 /// parser.next()?;
 /// parser.next()?;
 /// let first = parser.next()?;
-/// assert_eq!(rt; read_value(alloc, &mut parser, first)?.cells().len(), 3);
+/// assert_eq!(rt; read_following_value(alloc, &mut parser, first)?.cells().len(), 3);
 /// assert!(rt; matches!(parser.next()?, Event::Number("4")));
 /// ```
-pub fn read_value<'a>(alloc: Global, parser: &mut Parser<'a>, first: Event<'a>) -> Result<Rc<Doc>>
+pub fn read_following_value<'a>(
+    alloc: Global,
+    parser: &mut Parser<'a>,
+    first: Event<'a>,
+) -> Result<Rc<Doc>>
     requires { HandedOut parser.old first }
     ensures same { SameInput parser.old parser.new }
     ensures order { parser.old.index ≤ parser.new.index }

@@ -4,7 +4,7 @@ ghost use Rattle.std.specs.Str.{IsCharBoundary};
 ghost use Rattle.json_doc.specs.Docs.{doc_cells, doc_text, doc_tree};
 ghost use Rattle.json_doc.specs.Shape.{is_str};
 ghost use Rattle.json_doc.specs.Trees.{text_of_tree};
-ghost use Rattle.json_doc.specs.Readings.{type_of, bool_of, integer_of, literal_of, string_of, elements, object_keys, values, children};
+ghost use Rattle.json_doc.specs.Readings.{type_of, bool_of, integer_in_tree, literal_of, string_of, elements, object_keys, values, children};
 ghost use Rattle.json_doc.specs.declared.cell.Cell.TheVariants.{Null as null_cell};
 
 use crate::cell::Cell;
@@ -88,7 +88,7 @@ impl<'a> DocView<'a> {
     /// another number and of another kind.
     #[inline]
     pub fn as_number(self) -> Option<Number>
-        ensures value { option_map value_of result ≡ integer_of (view_tree self.entry) }
+        ensures value { option_map value_of result ≡ integer_in_tree (view_tree self.entry) }
         ensures text { IfSome result (λ n. view_tree self.entry ≡ num (text_of_number n)) }
     {
         match self.cell() {
@@ -153,7 +153,7 @@ impl<'a> DocView<'a> {
     #[inline]
     fn value_place(self, i: usize) -> Option<usize>
         ensures within { IfSome result (λ k. k < length (doc_cells (view_doc self.entry))) }
-        ensures behind { IfSome result (λ k. 0 < k) }
+        ensures after { IfSome result (λ k. 0 < k) }
         ensures keyed { IfSome result
             (λ k. is_str (slice_index_or (doc_cells (view_doc self.entry)) (k - 1) null_cell)
             ≡ true) }

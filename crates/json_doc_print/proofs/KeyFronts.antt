@@ -14,10 +14,10 @@ use Rattle.json_doc.specs.Docs.{doc_tree}
 use Rattle.json_doc.specs.Left.{doc_pair}
 use Rattle.json_doc.specs.declared.doc.Doc.{Doc}
 use Rattle.json_doc.specs.OpenNames.{front_of}
-use Rattle.json_print.specs.Orders.{Pair, In, Rise, numbered_in, inserted_pairs}
+use Rattle.json_print.specs.Orders.{NumberedKey, IsMember, Rise, numbered_in, inserted_pairs}
 use Rattle.json_print.proofs.Orders.{all_in}
-use Rattle.json_doc_print.specs.KeyOrder.{key_and_number, IsKeyOrder, IsEntry, AreEntries, numbers_in, place_key}
-use Rattle.json_doc_print.specs.declared.key_order.Entry.{Entry}
+use Rattle.json_doc_print.specs.KeyOrder.{key_and_number, IsKeyOrder, IsEntry, AreEntries, numbers_in, key_before}
+use Rattle.json_doc_print.specs.declared.key_order.IndexedMember.{IndexedMember}
 use Rattle.json_doc_print.proofs.KeyOrders.{place_in, place_value}
 use Rattle.json_doc_print.proofs.Items.{item_there}
 
@@ -101,16 +101,16 @@ less_fronted a b h k = go (cases_lt (front_of a) (front_of b)) (cases_lt (front_
 
 -- ---- what has been sorted with its numbers
 
-abbrev plain : Pair → Pair
+abbrev plain : NumberedKey → NumberedKey
 plain x = (drop 1 x.0, x.1)
 
-abbrev IsFronted : Pair → Type 0
+abbrev IsFronted : NumberedKey → Type 0
 IsFronted x = (s : List ℕ) × (x.0 ≡ fronted s) × AreBytes s
 
-less_plain : (x y : Pair) → IsFronted x → IsFronted y → bytes_less y.0 x.0 ≡ bytes_less (plain y).0 (plain x).0
+less_plain : (x y : NumberedKey) → IsFronted x → IsFronted y → bytes_less y.0 x.0 ≡ bytes_less (plain y).0 (plain x).0
 less_plain x y h k = rw (h.1, k.1) (less_fronted k.0 h.0 k.2 h.2)
 
-plain_inserted : (x : Pair) (ys : List Pair) → IsFronted x → ((y : Pair) → In y ys → IsFronted y) → map plain (numbered_in x ys) ≡ numbered_in (plain x) (map plain ys)
+plain_inserted : (x : NumberedKey) (ys : List NumberedKey) → IsFronted x → ((y : NumberedKey) → IsMember y ys → IsFronted y) → map plain (numbered_in x ys) ≡ numbered_in (plain x) (map plain ys)
 plain_inserted x [] h k = refl
 plain_inserted x (y ∷ ys) h k = go (bytes_less y.0 x.0) (bytes_less (plain y).0 (plain x).0) (less_plain x y h (k y (inl refl))) (plain_inserted x ys h (λ z i. k z (inr i)))
   where
@@ -121,7 +121,7 @@ plain_inserted x (y ∷ ys) h k = go (bytes_less y.0 x.0) (bytes_less (plain y).
     go false true e ih = true_false (sym e)
     go false false e ih = refl
 
-plain_all : (xs : List Pair) → ((x : Pair) → In x xs → IsFronted x) → map plain (inserted_pairs xs) ≡ inserted_pairs (map plain xs)
+plain_all : (xs : List NumberedKey) → ((x : NumberedKey) → IsMember x xs → IsFronted x) → map plain (inserted_pairs xs) ≡ inserted_pairs (map plain xs)
 plain_all [] h = refl
 plain_all (x ∷ xs) h =
     plain_inserted x (inserted_pairs xs) (h x (inl refl)) (λ y i. h y (inr (all_in y xs i))) ∙ ap (numbered_in (plain x)) (plain_all xs (λ y i. h y (inr i)))
@@ -129,20 +129,20 @@ plain_all (x ∷ xs) h =
 -- ---- entries
 
 -- the key of an entry's member, with the entry's number of its first bytes before it
-abbrev pub fronted_pair : (ℕ → List ℕ) → Entry → Pair
+abbrev pub fronted_pair : (ℕ → List ℕ) → IndexedMember → NumberedKey
 fronted_pair key e = (e.front ∷ key e.number, e.number)
 
-entries_fronted : (key : ℕ → List ℕ) (es : List Entry) → AreEntries key es → (x : Pair) → In x (map (fronted_pair key) es) → IsFronted x
+entries_fronted : (key : ℕ → List ℕ) (es : List IndexedMember) → AreEntries key es → (x : NumberedKey) → IsMember x (map (fronted_pair key) es) → IsFronted x
 entries_fronted key [] h x i = absurd i
-entries_fronted key (e ∷ es) h x (inl q) = (key e.number, ap (λ (y : Pair). y.0) q ∙ ap (λ n. n ∷ key e.number) h.0.0, h.0.1)
+entries_fronted key (e ∷ es) h x (inl q) = (key e.number, ap (λ (y : NumberedKey). y.0) q ∙ ap (λ n. n ∷ key e.number) h.0.0, h.0.1)
 entries_fronted key (e ∷ es) h x (inr i) = entries_fronted key es h.1 x i
 
-plain_keyed : (key : ℕ → List ℕ) (es : List Entry) → map plain (map (fronted_pair key) es) ≡ map (key_and_number key) (numbers_in es)
+plain_keyed : (key : ℕ → List ℕ) (es : List IndexedMember) → map plain (map (fronted_pair key) es) ≡ map (key_and_number key) (numbers_in es)
 plain_keyed key [] = refl
 plain_keyed key (e ∷ es) = ap (λ ps. key_and_number key e.number ∷ ps) (plain_keyed key es)
 
 -- sorted by the first bytes, the keys and the numbers they are in the order of the keys
-pub order_by_fronts : (key : ℕ → List ℕ) (xs ys : List Entry) → AreEntries key xs → map (fronted_pair key) ys ≡ inserted_pairs (map (fronted_pair key) xs) → IsKeyOrder key (numbers_in xs) (numbers_in ys)
+pub order_by_fronts : (key : ℕ → List ℕ) (xs ys : List IndexedMember) → AreEntries key xs → map (fronted_pair key) ys ≡ inserted_pairs (map (fronted_pair key) xs) → IsKeyOrder key (numbers_in xs) (numbers_in ys)
 order_by_fronts key xs ys h e =
     sym (plain_keyed key ys) ∙ ap (map plain) e ∙ plain_all (map (fronted_pair key) xs) (entries_fronted key xs h) ∙ ap inserted_pairs (plain_keyed key xs)
 
@@ -152,47 +152,47 @@ then_then Equal b c = refl
 then_then Greater b c = refl
 
 -- their numbers rise as those of the members do
-number_among : (key : ℕ → List ℕ) (es : List Entry) (z : Pair) → In z (map (fronted_pair key) es) → (w : Pair) × In w (map (key_and_number key) (numbers_in es)) × (w.1 ≡ z.1)
+number_among : (key : ℕ → List ℕ) (es : List IndexedMember) (z : NumberedKey) → IsMember z (map (fronted_pair key) es) → (w : NumberedKey) × IsMember w (map (key_and_number key) (numbers_in es)) × (w.1 ≡ z.1)
 number_among key [] z i = absurd i
-number_among key (e ∷ es) z (inl q) = (key_and_number key e.number, inl refl, ap (λ (y : Pair). y.1) (sym q))
+number_among key (e ∷ es) z (inl q) = (key_and_number key e.number, inl refl, ap (λ (y : NumberedKey). y.1) (sym q))
 number_among key (e ∷ es) z (inr i) = let r = number_among key es z i in (r.0, inr r.1, r.2)
 
-pub rise_fronted : (key : ℕ → List ℕ) (es : List Entry) → Rise (map (key_and_number key) (numbers_in es)) → Rise (map (fronted_pair key) es)
+pub rise_fronted : (key : ℕ → List ℕ) (es : List IndexedMember) → Rise (map (key_and_number key) (numbers_in es)) → Rise (map (fronted_pair key) es)
 rise_fronted key [] h = tt
 rise_fronted key (e ∷ es) h = (λ z i. let r = number_among key es z i in subst (λ n. e.number < n) r.2 (h.0 r.0 r.1), rise_fronted key es h.1)
 
 -- one more
-pub one_more_entry : (key : ℕ → List ℕ) (es : List Entry) (e : Entry) → AreEntries key es → IsEntry key e → AreEntries key (es ++ e ∷ [])
+pub one_more_entry : (key : ℕ → List ℕ) (es : List IndexedMember) (e : IndexedMember) → AreEntries key es → IsEntry key e → AreEntries key (es ++ e ∷ [])
 one_more_entry key [] e h i = (i, tt)
 one_more_entry key (x ∷ es) e h i = (h.0, one_more_entry key es e h.1 i)
 
-pub one_more_number : (es : List Entry) (e : Entry) → numbers_in (es ++ e ∷ []) ≡ numbers_in es ++ e.number ∷ []
+pub one_more_number : (es : List IndexedMember) (e : IndexedMember) → numbers_in (es ++ e ∷ []) ≡ numbers_in es ++ e.number ∷ []
 one_more_number [] e = refl
 one_more_number (x ∷ es) e = ap (λ ns. x.number ∷ ns) (one_more_number es e)
 
 -- ---- the entry at a place of an index
 
-abbrev pub number_of : List Entry → ℕ → ℕ
+abbrev pub number_of : List IndexedMember → ℕ → ℕ
 number_of es i = (get_or es i (record { front = 0; number = 0 })).number
 
-pub numbered : (es : List Entry) (i : ℕ) → i < length es → i < length (numbers_in es)
-numbered es i l = omega (arith, l, length-map es (λ (e : Entry). e.number))
+pub numbered : (es : List IndexedMember) (i : ℕ) → i < length es → i < length (numbers_in es)
+numbered es i l = omega (arith, l, length-map es (λ (e : IndexedMember). e.number))
 
-pub number_there : (es : List Entry) (i : ℕ) → i < length es → get_or (numbers_in es) i 0 ≡ number_of es i
-number_there es i l = get_or-map (λ (e : Entry). e.number) es i (record { front = 0; number = 0 }) 0 l
+pub number_there : (es : List IndexedMember) (i : ℕ) → i < length es → get_or (numbers_in es) i 0 ≡ number_of es i
+number_there es i l = get_or-map (λ (e : IndexedMember). e.number) es i (record { front = 0; number = 0 }) 0 l
 
-pub entry_there : {X : Type 0} (f : ℕ → X) (es : List Entry) (i : ℕ) → i < length es → slice_get (map f (numbers_in es)) i ≡ Some (f (number_of es i))
+pub entry_there : {X : Type 0} (f : ℕ → X) (es : List IndexedMember) (i : ℕ) → i < length es → slice_get (map f (numbers_in es)) i ≡ Some (f (number_of es i))
 entry_there f es i l =
     let ns = numbers_in es in let n = number_of es i in
-    item_there f ns ns i n refl (numbered es i l) (sym (get_or-map (λ (e : Entry). e.number) es i (record { front = 0; number = 0 }) n l))
+    item_there f ns ns i n refl (numbered es i l) (sym (get_or-map (λ (e : IndexedMember). e.number) es i (record { front = 0; number = 0 }) n l))
 
-pub entries_end : {X : Type 0} (f : ℕ → X) (es : List Entry) (i : ℕ) → length es ≤ i → length (map f (numbers_in es)) ≤ i
-entries_end f es i l = omega (arith, l, length-map (numbers_in es) f, length-map es (λ (e : Entry). e.number))
+pub entries_end : {X : Type 0} (f : ℕ → X) (es : List IndexedMember) (i : ℕ) → length es ≤ i → length (map f (numbers_in es)) ≤ i
+entries_end f es i l = omega (arith, l, length-map (numbers_in es) f, length-map es (λ (e : IndexedMember). e.number))
 
 -- of an index of a document's members
-module _ (d e : Doc) (places : List ℕ) (es : List Entry) (same : e ≡ d) (is : IsKeyOrder (place_key d) places (numbers_in es)) where
-  pub entry_in : (i : ℕ) → i < length es → In (number_of es i) places
-  entry_in i l = subst (λ n. In n places) (number_there es i l) (place_in d e places (numbers_in es) same is i (numbered es i l))
+module _ (d e : Doc) (places : List ℕ) (es : List IndexedMember) (same : e ≡ d) (is : IsKeyOrder (key_before d) places (numbers_in es)) where
+  pub entry_in : (i : ℕ) → i < length es → IsMember (number_of es i) places
+  entry_in i l = subst (λ n. IsMember n places) (number_there es i l) (place_in d e places (numbers_in es) same is i (numbered es i l))
 
   pub entry_tree : (i : ℕ) → i < length es → nodes (doc_tree d (number_of es i)) ≤ pairs_nodes (list_pairs (map (doc_pair e) places))
   entry_tree i l = subst (λ n. nodes (doc_tree d n) ≤ pairs_nodes (list_pairs (map (doc_pair e) places))) (number_there es i l) (place_value d e places (numbers_in es) same is i (numbered es i l))

@@ -1,5 +1,5 @@
 pub mod Trees
-pub mod TokenStands
+pub mod ExpectedTokens
 pub mod TokensGiven
 pub mod Items
 pub mod GivenTokens

@@ -12,7 +12,7 @@ use Rattle.json_doc.specs.Left.{children_left, pairs_left}
 use Rattle.json_doc.specs.declared.node.DocNode.{DocNode}
 use Rattle.json_doc.specs.declared.node.DocNode.TheVariants as node
 use Rattle.json_layout.specs.Adding.{Adds}
-use Rattle.json_layout.specs.Buffered.{held_behind}
+use Rattle.json_layout.specs.Buffered.{held_after}
 use Rattle.json_layout.specs.declared.buffered.BufferedWriter.{BufferedWriter}
 use Rattle.json_layout.specs.Showing.{Shows, lead, closed_by, key_shown}
 use Rattle.json_layout.proofs.ShownParts.{added_shows, Shows-first, Shows-within, Shows-then, Shows-same}
@@ -84,7 +84,7 @@ object_is i d ps = ap (λ e. 123 ∷ members_left i d e true ps) (next d) ∙ ob
 
 -- what a buffered writer represents
 abbrev pub held : {W : Type 0} → (W → SinkState) → BufferedWriter W → SinkState
-held state b = held_behind (state b.inner) (drop b.sent (take b.end b.buffer.items))
+held state b = held_after (state b.inner) (drop b.sent (take b.end b.buffer.items))
 
 -- what is left of it, with e containers around it, brings all that was to be shown, which has d around it
 pub record Goes (d e : ℕ) (old now : SinkState) (left all : List ℕ) : Type 0 where

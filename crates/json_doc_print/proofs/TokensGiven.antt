@@ -8,13 +8,13 @@ use Rattle.json_io.specs.declared.error.Error.{Error}
 use Rattle.json_doc.specs.Readings.{object_keys, values}
 use Rattle.std.proofs.lemmas.List.{take_all}
 use Rattle.json_print.specs.Given.{TokenOrInteger, given, token_of}
-use Rattle.json_print.proofs.Taking.{stand_moves}
+use Rattle.json_print.proofs.Taking.{state_moves}
 use Rattle.json_print.specs.Taking.{after_all, StopsAmong, Takes}
 use Rattle.json_doc_print.specs.Readings.{members}
 use Rattle.json_doc_print.specs.Emitting.{Emits, tree_given, trees_given, pairs_given}
 use Rattle.json_doc.proofs.Trees.{list_back}
 use Rattle.json_doc_print.proofs.Trees.{pairs_back}
-use Rattle.json_doc_print.proofs.TokenStands.{after_append, all_given, all_pairs, elements_stand, members_stand}
+use Rattle.json_doc_print.proofs.ExpectedTokens.{after_append, all_given, all_pairs, elements_state, members_state}
 
 -- ---- one
 
@@ -117,10 +117,10 @@ rest_from (y ∷ ys) rest (suc i) x e = rest_from ys rest i x e
 pub rest_left : {A : Type 0} (xs rest : List A) (i : ℕ) (x : A) → drop i xs ≡ x ∷ rest → drop (i + 1) xs ≡ rest
 rest_left xs rest i x e = ap (λ n. drop n xs) (next i) ∙ rest_from xs rest i x e
 
-pub nothing_behind : {A : Type 0} (xs : List A) (i : ℕ) → drop i xs ≡ [] → length xs ≤ i
-nothing_behind [] i e = omega arith
-nothing_behind (y ∷ ys) zero e = absurd (cc)
-nothing_behind (y ∷ ys) (suc i) e = omega (arith, nothing_behind ys i e)
+pub nothing_after : {A : Type 0} (xs : List A) (i : ℕ) → drop i xs ≡ [] → length xs ≤ i
+nothing_after [] i e = omega arith
+nothing_after (y ∷ ys) zero e = absurd (cc)
+nothing_after (y ∷ ys) (suc i) e = omega (arith, nothing_after ys i e)
 
 -- ---- one more
 
@@ -186,11 +186,11 @@ pub array_whole : (ts : List Tree) (n : ℕ) → length ts ≤ n → tree_given 
 array_whole ts n l = array_given ts ∙ ap (λ o. given (begin array) ∷ (all_given o ++ given (end array) ∷ [])) (sym (take_all n ts l))
 
 -- after some elements an element or the end may follow
-pub array_stand : {S : Type 0} (after : S → TokenOrInteger → S) (stand : S → TokenState) → ((s : S) (g : TokenOrInteger) → stand (after s g) ≡ after_token (stand s) (token_of g)) → (first now : S) (ts : List Tree) (i : ℕ) → now ≡ after_all after first (array_front ts i)
-    → ValueMayCome (stand now).expected × EndMayCome (stand now).expected array
-array_stand after stand moves first now ts i e =
-    let o = (stand first).opened in let r = elements_stand o (take i ts) in
-    let s = ap stand e ∙ stand_moves after stand moves first (array_front ts i) ∙ r in
+pub array_state : {S : Type 0} (after : S → TokenOrInteger → S) (token_state : S → TokenState) → ((s : S) (g : TokenOrInteger) → token_state (after s g) ≡ after_token (token_state s) (token_of g)) → (first now : S) (ts : List Tree) (i : ℕ) → now ≡ after_all after first (array_front ts i)
+    → ValueMayCome (token_state now).expected × EndMayCome (token_state now).expected array
+array_state after token_state moves first now ts i e =
+    let o = (token_state first).opened in let r = elements_state o (take i ts) in
+    let s = ap token_state e ∙ state_moves after token_state moves first (array_front ts i) ∙ r in
     (subst (λ (z : TokenState). ValueMayCome z.expected) (sym s) tt, subst (λ (z : TokenState). EndMayCome z.expected array) (sym s) tt)
 
 -- one element more was given
@@ -242,16 +242,16 @@ pub object_whole : (ps : List (List ℕ × Tree)) (n : ℕ) → length ps ≤ n 
 object_whole ps n l = object_given ps ∙ ap (λ o. given (begin object) ∷ (all_pairs o ++ given (end object) ∷ [])) (sym (take_all n ps l))
 
 -- after some members a name or the end may follow
-pub object_stand : {S : Type 0} (after : S → TokenOrInteger → S) (stand : S → TokenState) → ((s : S) (g : TokenOrInteger) → stand (after s g) ≡ after_token (stand s) (token_of g)) → (first now : S) (ps : List (List ℕ × Tree)) (i : ℕ) → now ≡ after_all after first (object_front ps i)
-    → NameMayCome (stand now).expected × EndMayCome (stand now).expected object
-object_stand after stand moves first now ps i e =
-    let o = (stand first).opened in let r = members_stand o (take i ps) in
-    let s = ap stand e ∙ stand_moves after stand moves first (object_front ps i) ∙ r in
+pub object_state : {S : Type 0} (after : S → TokenOrInteger → S) (token_state : S → TokenState) → ((s : S) (g : TokenOrInteger) → token_state (after s g) ≡ after_token (token_state s) (token_of g)) → (first now : S) (ps : List (List ℕ × Tree)) (i : ℕ) → now ≡ after_all after first (object_front ps i)
+    → NameMayCome (token_state now).expected × EndMayCome (token_state now).expected object
+object_state after token_state moves first now ps i e =
+    let o = (token_state first).opened in let r = members_state o (take i ps) in
+    let s = ap token_state e ∙ state_moves after token_state moves first (object_front ps i) ∙ r in
     (subst (λ (z : TokenState). NameMayCome z.expected) (sym s) tt, subst (λ (z : TokenState). EndMayCome z.expected object) (sym s) tt)
 
 -- a value may follow a name
-pub member_stand : {S : Type 0} (after : S → TokenOrInteger → S) (stand : S → TokenState) → ((s : S) (g : TokenOrInteger) → stand (after s g) ≡ after_token (stand s) (token_of g)) → (now new : S) (k : List ℕ) → new ≡ after now (given (key_token k)) → ValueMayCome (stand new).expected
-member_stand after stand moves now new k e = subst (λ (z : TokenState). ValueMayCome z.expected) (sym (ap stand e ∙ moves now (given (key_token k)))) tt
+pub member_state : {S : Type 0} (after : S → TokenOrInteger → S) (token_state : S → TokenState) → ((s : S) (g : TokenOrInteger) → token_state (after s g) ≡ after_token (token_state s) (token_of g)) → (now new : S) (k : List ℕ) → new ≡ after now (given (key_token k)) → ValueMayCome (token_state new).expected
+member_state after token_state moves now new k e = subst (λ (z : TokenState). ValueMayCome z.expected) (sym (ap token_state e ∙ moves now (given (key_token k)))) tt
 
 -- one member more was given
 pub object_step : {S : Type 0} (after : S → TokenOrInteger → S) (first now mid new : S) (ps : List (List ℕ × Tree)) (i : ℕ) (k : List ℕ) (u : Tree) → now ≡ after_all after first (object_front ps i) → mid ≡ after now (given (key_token k))

@@ -6,7 +6,7 @@ use Rattle.json_io.specs.declared.error.Error.{Error}
 use Rattle.json_print.specs.Given.{TokenOrInteger}
 use Rattle.json_print.specs.Taking.{Takes}
 use Rattle.json_doc_print.specs.Emitting.{Emits, Walks, tree_given}
-use Rattle.json_doc_print.specs.declared.walk.Stopped.{Stopped}
+use Rattle.json_doc_print.specs.declared.walk.EventsFailed.{EventsFailed}
 use Rattle.json_doc_print.proofs.TokensGiven.{emits_one}
 
 -- ---- one call of the events
@@ -30,24 +30,24 @@ not_taken (Err x) h e = (x, h)
 -- ---- a walk
 
 -- it tells of an answer whether it is Ok
-pub told : {S : Type 0} {after : S → TokenOrInteger → S} {stopped : S → TokenOrInteger → S → Error → Type 0} {old new : S} {err err' : Option Error} {gs : List TokenOrInteger} (w : Result (Unit {0}) Stopped) (r : Result (Unit {0}) Error)
+pub reported : {S : Type 0} {after : S → TokenOrInteger → S} {stopped : S → TokenOrInteger → S → Error → Type 0} {old new : S} {err err' : Option Error} {gs : List TokenOrInteger} (w : Result (Unit {0}) EventsFailed) (r : Result (Unit {0}) Error)
     → is_ok w ≡ is_ok r → Emits after stopped old new err err' gs r → Walks after stopped old new err err' gs w
-told (Ok u) (Ok v) e h = h
-told (Ok u) (Err x) e h = ok_err e
-told (Err s) (Ok v) e h = err_ok e
-told (Err s) (Err x) e h = (x, h)
+reported (Ok u) (Ok v) e h = h
+reported (Ok u) (Err x) e h = ok_err e
+reported (Err s) (Ok v) e h = err_ok e
+reported (Err s) (Err x) e h = (x, h)
 
-pub walks_one : {S : Type 0} {after : S → TokenOrInteger → S} {stopped : S → TokenOrInteger → S → Error → Type 0} {old new : S} {err err' : Option Error} {x : TokenOrInteger} {ts : List TokenOrInteger} (w : Result (Unit {0}) Stopped) (r : Result (Unit {0}) Error)
+pub walks_one : {S : Type 0} {after : S → TokenOrInteger → S} {stopped : S → TokenOrInteger → S → Error → Type 0} {old new : S} {err err' : Option Error} {x : TokenOrInteger} {ts : List TokenOrInteger} (w : Result (Unit {0}) EventsFailed) (r : Result (Unit {0}) Error)
     → ts ≡ x ∷ [] → is_ok w ≡ is_ok r → Takes after stopped old new err err' x r → Walks after stopped old new err err' ts w
-walks_one w r e is h = told w r is (emits_one _ _ _ _ _ _ _ _ _ e h)
+walks_one w r e is h = reported w r is (emits_one _ _ _ _ _ _ _ _ _ e h)
 
 -- it stopped
-pub halts : {S : Type 0} {after : S → TokenOrInteger → S} {stopped : S → TokenOrInteger → S → Error → Type 0} {old new : S} {err err' : Option Error} {gs : List TokenOrInteger} (w : Result (Unit {0}) Stopped) {s : Stopped} (e : Error)
-    → (y : Stopped) × (w ≡ Err y) × (y ≡ s) → Emits after stopped old new err err' gs (Err e) → Walks after stopped old new err err' gs w
+pub halts : {S : Type 0} {after : S → TokenOrInteger → S} {stopped : S → TokenOrInteger → S → Error → Type 0} {old new : S} {err err' : Option Error} {gs : List TokenOrInteger} (w : Result (Unit {0}) EventsFailed) {s : EventsFailed} (e : Error)
+    → (y : EventsFailed) × (w ≡ Err y) × (y ≡ s) → Emits after stopped old new err err' gs (Err e) → Walks after stopped old new err err' gs w
 halts {S} {after} {stopped} {old} {new} {err} {err'} {gs} w e p h = subst (λ z. Walks after stopped old new err err' gs z) (sym p.1) (e, h)
 
 -- of equal trees it gives the same
-pub walks_same : {S : Type 0} (after : S → TokenOrInteger → S) (stopped : S → TokenOrInteger → S → Error → Type 0) (old new : S) (err err' : Option Error) (t u : Tree) (w : Result (Unit {0}) Stopped)
+pub walks_same : {S : Type 0} (after : S → TokenOrInteger → S) (stopped : S → TokenOrInteger → S → Error → Type 0) (old new : S) (err err' : Option Error) (t u : Tree) (w : Result (Unit {0}) EventsFailed)
     → t ≡ u → Walks after stopped old new err err' (tree_given t) w → Walks after stopped old new err err' (tree_given u) w
 walks_same after stopped old new err err' t u w e h = subst (λ x. Walks after stopped old new err err' (tree_given x) w) e h
 

@@ -6,7 +6,7 @@ use Rattle.json_io.specs.declared.error.Error.{Error}
 use Rattle.json_number.specs.Integers.{integer_in}
 use Rattle.json_print.specs.Given.{TokenOrInteger, given, given_integer}
 use Rattle.json_print.specs.Taking.{after_all, StopsAmong}
-use Rattle.json_doc_print.specs.declared.walk.Stopped.{Stopped}
+use Rattle.json_doc_print.specs.declared.walk.EventsFailed.{EventsFailed}
 
 -- a number is given as its integer, where that lies in i64 or u64, else by its literal
 abbrev pub number_given : Option ℤ → List ℕ → TokenOrInteger
@@ -41,6 +41,6 @@ pub record Emits {S : Type 0} (after : S → TokenOrInteger → S) (stopped : S 
   pub again : IfSome err (λ e. (result ≡ Err e) × (new ≡ old))
 
 -- a walk that went on has given them all; one that stopped has met an error, which the events keep
-abbrev pub Walks : {S : Type 0} → (S → TokenOrInteger → S) → (S → TokenOrInteger → S → Error → Type 0) → S → S → Option Error → Option Error → List TokenOrInteger → Result (Unit {0}) Stopped → Type 0
+abbrev pub Walks : {S : Type 0} → (S → TokenOrInteger → S) → (S → TokenOrInteger → S → Error → Type 0) → S → S → Option Error → Option Error → List TokenOrInteger → Result (Unit {0}) EventsFailed → Type 0
 Walks after stopped old new err err' gs (Ok u) = Emits after stopped old new err err' gs (Ok u)
 Walks after stopped old new err err' gs (Err s) = (e : Error) × Emits after stopped old new err err' gs (Err e)

@@ -6,7 +6,7 @@ ghost use Rattle.json_grammar.specs.Tree.{list_pairs};
 ghost use Rattle.json_model.specs.Sort.{bytes_less, NeverFall};
 ghost use Rattle.json_doc.specs.Left.{pairs_doc, pairs_left, places_of_pairs};
 ghost use Rattle.json_print.specs.Orders.{Rise};
-ghost use Rattle.json_doc_print.specs.KeyOrder.{key_and_number, AreEntries, IsEntry, IsKeyOrder, place_key, numbers_in};
+ghost use Rattle.json_doc_print.specs.KeyOrder.{key_and_number, AreEntries, IsEntry, IsKeyOrder, key_before, numbers_in};
 ghost use Rattle.json_io.specs.Errors.{OnlyNoMemory};
 
 use json_doc::{Doc, DocPairs, front_number};
@@ -17,14 +17,14 @@ use std::cmp::Ordering;
 /// A member in an index. Most keys differ in their first eight bytes, whose number is kept here:
 /// then no look is needed at the keys, which lie far apart in memory.
 #[derive(Clone, Copy)]
-pub struct Entry {
+pub struct IndexedMember {
     front: u64,
     /// The number of the member.
     pub number: usize,
 }
 
 /// What has the keys of members, which are known by numbers.
-pub trait Keys {
+pub trait MemberKeys {
     /// The key of the member of each number.
     ghost key_of: { Self → ℕ → List ℕ };
 
@@ -33,8 +33,8 @@ pub trait Keys {
         ensures { result.now ≡ key_of self.now number };
 }
 
-impl Keys for Doc {
-    ghost key_of = { place_key };
+impl MemberKeys for Doc {
+    ghost key_of = { key_before };
 
     #[inline]
     fn key(&self, number: usize) -> &str {
@@ -57,12 +57,12 @@ pub fn is_less(a: &[u8], b: &[u8]) -> bool
 }
 
 /// Returns the entry of the member of a number.
-pub fn entry_of<K: Keys>(keys: &K, number: usize) -> Entry
+pub fn entry_of<K: MemberKeys>(keys: &K, number: usize) -> IndexedMember
     ensures number { result.number ≡ number }
     ensures entry { IsEntry (K.key_of keys.now) result }
 {
     let key = keys.key(number);
-    Entry {
+    IndexedMember {
         front: front_number(key),
         number,
     }
@@ -70,7 +70,7 @@ pub fn entry_of<K: Keys>(keys: &K, number: usize) -> Entry
 
 // By the bytes of the keys, and then by the numbers.
 #[inline]
-fn compare_keys<K: Keys>(keys: &K, a: usize, b: usize) -> Ordering
+fn compare_keys<K: MemberKeys>(keys: &K, a: usize, b: usize) -> Ordering
     ensures { result ≡ ordering_then
         (slice_cmp nat_cmp (K.key_of keys.now a) (K.key_of keys.now b)) (nat_cmp a b) }
 {
@@ -82,7 +82,7 @@ fn compare_keys<K: Keys>(keys: &K, a: usize, b: usize) -> Ordering
 
 // By the first bytes of the keys, and where these are the same by all of them.
 #[inline]
-fn compare<K: Keys>(keys: &K, a: Entry, b: Entry) -> Ordering
+fn compare<K: MemberKeys>(keys: &K, a: IndexedMember, b: IndexedMember) -> Ordering
     ensures { result ≡ ordering_then (nat_cmp a.front b.front) (ordering_then
         (slice_cmp nat_cmp (K.key_of keys.now a.number) (K.key_of keys.now b.number))
         (nat_cmp a.number b.number)) }
@@ -94,7 +94,7 @@ fn compare<K: Keys>(keys: &K, a: Entry, b: Entry) -> Ordering
 }
 
 /// Sorts entries by the keys of their members, and those of one key by their numbers.
-pub fn sort_by_key<K: Keys>(keys: &K, entries: &mut [Entry])
+pub fn sort_by_key<K: MemberKeys>(keys: &K, entries: &mut [IndexedMember])
     requires entries { AreEntries (K.key_of keys.now) entries.old }
     requires rise { Rise (map (key_and_number (K.key_of keys.now)) (numbers_in entries.old)) }
     ensures { IsKeyOrder (K.key_of keys.now) (numbers_in entries.old) (numbers_in entries.new) }
@@ -116,9 +116,9 @@ pub(crate) fn packed_never_fall(pairs: DocPairs<'_>) -> bool
     true
 }
 
-fn entries_of_doc(alloc: Global, doc: &Doc, pairs: DocPairs<'_>) -> Result<Vec<Entry>>
+fn entries_of_doc(alloc: Global, doc: &Doc, pairs: DocPairs<'_>) -> Result<Vec<IndexedMember>>
     ensures places { IfOk result (λ v. numbers_in v.items ≡ places_of_pairs pairs.entry) }
-    ensures entries { IfOk result (λ v. AreEntries (place_key doc.now) v.items) }
+    ensures entries { IfOk result (λ v. AreEntries (key_before doc.now) v.items) }
     ensures only { OnlyNoMemory result }
 {
     let mut entries = Vec::with_capacity(alloc, pairs.len())?;
@@ -129,9 +129,13 @@ fn entries_of_doc(alloc: Global, doc: &Doc, pairs: DocPairs<'_>) -> Result<Vec<E
 }
 
 // The entries of the values of the pairs, which are of the document, in the order of their keys.
-pub(crate) fn packed_in_order(alloc: Global, doc: &Doc, pairs: DocPairs<'_>) -> Result<Vec<Entry>>
+pub(crate) fn packed_in_order(
+    alloc: Global,
+    doc: &Doc,
+    pairs: DocPairs<'_>,
+) -> Result<Vec<IndexedMember>>
     requires { pairs_doc pairs ≡ doc.now }
-    ensures order { IfOk result (λ order. IsKeyOrder (place_key doc.now)
+    ensures order { IfOk result (λ order. IsKeyOrder (key_before doc.now)
         (places_of_pairs pairs.entry) (numbers_in order.items)) }
     ensures only { OnlyNoMemory result }
 {

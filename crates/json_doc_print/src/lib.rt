@@ -25,9 +25,9 @@ mod walk;
 pub use emit_packed::{
     emit_document, emit_elements, emit_members, emit_no_pairs, emit_no_values, emit_number,
 };
-pub use key_order::{Entry, Keys, entry_of, is_less, sort_by_key};
-pub use show_packed::{Showed, show_bool, show_document, show_elements, show_members, show_number};
+pub use key_order::{IndexedMember, MemberKeys, entry_of, is_less, sort_by_key};
+pub use show_packed::{show_bool, show_document, show_elements, show_members, show_number};
 pub use show_sorted_packed::{
     SortedLayout, show_sorted_document, show_sorted_elements, show_sorted_members,
 };
-pub use walk::{Stopped, Walked, taken};
+pub use walk::{EventsFailed, EventsResult, events_result};

@@ -14,12 +14,9 @@ ghost use Rattle.json_layout.specs.Showing.{Shows, lead};
 ghost use Rattle.json_doc_print.specs.ShownNodes.{node_tree};
 
 use json_doc::{DocChildren, DocNode, DocPairs, DocView};
-use json_io::{Sink, SinkError};
+use json_io::{Sink, SinkError, SinkResult};
+use json_layout::{BufferedWriter, Layout, show_piece, show_signed, show_text, show_unsigned};
 use json_number::{Integer, Number};
-use json_print::{BufferedWriter, Layout, show_piece, show_signed, show_text, show_unsigned};
-
-/// What printing returns: an error of the sink, or that there is none.
-pub type Showed = std::result::Result<(), SinkError>;
 
 /// Writes the text of the tree that is seen, with `level` containers around it. Fails with the
 /// sink's error, and with `NoMemory` at 2^64 - 1 levels.
@@ -28,7 +25,7 @@ pub fn show_document<W: Sink, L: Layout>(
     layout: L,
     level: usize,
     out: &mut BufferedWriter<W>,
-) -> Showed
+) -> SinkResult
     ensures { Shows level (⟦<BufferedWriter<W> as Sink>⟧.state out.old)
         (⟦<BufferedWriter<W> as Sink>⟧.state out.new)
         (shown (L.indent layout) level (view_tree view.entry)) result }
@@ -37,7 +34,7 @@ pub fn show_document<W: Sink, L: Layout>(
 }
 
 /// Writes an integer by value. Fails with the sink's error.
-pub fn show_number<W: Sink>(number: Number, out: &mut BufferedWriter<W>) -> Showed
+pub fn show_number<W: Sink>(number: Number, out: &mut BufferedWriter<W>) -> SinkResult
     ensures { Adds (⟦<BufferedWriter<W> as Sink>⟧.state out.old)
         (⟦<BufferedWriter<W> as Sink>⟧.state out.new) (text_of_number number) result }
 {
@@ -48,7 +45,7 @@ pub fn show_number<W: Sink>(number: Number, out: &mut BufferedWriter<W>) -> Show
 }
 
 /// Writes `true` or `false`. Fails with the sink's error.
-pub fn show_bool<W: Sink>(boolean: bool, out: &mut BufferedWriter<W>) -> Showed
+pub fn show_bool<W: Sink>(boolean: bool, out: &mut BufferedWriter<W>) -> SinkResult
     ensures { Adds (⟦<BufferedWriter<W> as Sink>⟧.state out.old)
         (⟦<BufferedWriter<W> as Sink>⟧.state out.new) (boolean_bytes boolean) result }
 {
@@ -80,7 +77,7 @@ fn show_root<W: Sink, L: Layout>(
     layout: L,
     level: usize,
     out: &mut BufferedWriter<W>,
-) -> Showed
+) -> SinkResult
     ensures { Shows level (⟦<BufferedWriter<W> as Sink>⟧.state out.old)
         (⟦<BufferedWriter<W> as Sink>⟧.state out.new)
         (shown (L.indent layout) level (node_tree node.entry)) result }
@@ -96,7 +93,7 @@ fn show_node<W: Sink, L: Layout>(
     layout: L,
     level: usize,
     out: &mut BufferedWriter<W>,
-) -> Showed
+) -> SinkResult
     ensures { Shows level (⟦<BufferedWriter<W> as Sink>⟧.state out.old)
         (⟦<BufferedWriter<W> as Sink>⟧.state out.new)
         (shown (L.indent layout) level (node_tree node.entry)) result }
@@ -112,7 +109,7 @@ pub(crate) fn show_member<W: Sink, L: Layout>(
     layout: L,
     level: usize,
     out: &mut BufferedWriter<W>,
-) -> Showed
+) -> SinkResult
     ensures { Shows level (⟦<BufferedWriter<W> as Sink>⟧.state out.old)
         (⟦<BufferedWriter<W> as Sink>⟧.state out.new)
         (shown (L.indent layout) level (node_tree node.entry)) result }
@@ -129,7 +126,7 @@ pub(crate) fn show_element<W: Sink, L: Layout>(
     level: usize,
     first: bool,
     out: &mut BufferedWriter<W>,
-) -> Showed
+) -> SinkResult
     ensures { Shows level (⟦<BufferedWriter<W> as Sink>⟧.state out.old)
         (⟦<BufferedWriter<W> as Sink>⟧.state out.new)
         (lead (L.indent layout) level first ++ shown (L.indent layout) level
@@ -151,7 +148,7 @@ fn show_children<W: Sink, L: Layout>(
     layout: L,
     level: usize,
     out: &mut BufferedWriter<W>,
-) -> Showed
+) -> SinkResult
     ensures { Shows level (⟦<BufferedWriter<W> as Sink>⟧.state out.old)
         (⟦<BufferedWriter<W> as Sink>⟧.state out.new)
         (shown (L.indent layout) level (list (list_trees (children_left children.entry)))) result }
@@ -175,7 +172,7 @@ fn show_pairs<W: Sink, L: Layout>(
     layout: L,
     level: usize,
     out: &mut BufferedWriter<W>,
-) -> Showed
+) -> SinkResult
     ensures { Shows level (⟦<BufferedWriter<W> as Sink>⟧.state out.old)
         (⟦<BufferedWriter<W> as Sink>⟧.state out.new)
         (shown (L.indent layout) level (pairs (list_pairs (pairs_left members.entry)))) result }
@@ -200,7 +197,7 @@ pub fn show_elements<W: Sink, L: Layout>(
     layout: L,
     level: usize,
     out: &mut BufferedWriter<W>,
-) -> Showed
+) -> SinkResult
     ensures { Shows level (⟦<BufferedWriter<W> as Sink>⟧.state out.old)
         (⟦<BufferedWriter<W> as Sink>⟧.state out.new)
         (shown (L.indent layout) level
@@ -219,7 +216,7 @@ pub fn show_members<W: Sink, L: Layout>(
     layout: L,
     level: usize,
     out: &mut BufferedWriter<W>,
-) -> Showed
+) -> SinkResult
     ensures { Shows level (⟦<BufferedWriter<W> as Sink>⟧.state out.old)
         (⟦<BufferedWriter<W> as Sink>⟧.state out.new)
         (shown (L.indent layout) level

@@ -11,11 +11,11 @@ ghost use Rattle.json_layout.specs.Showing.{lead};
 ghost use Rattle.json_doc_print.specs.Readings.{members};
 ghost use Rattle.json_doc_print.specs.ShowingSorted.{ShowsOrRunsOut};
 
-use crate::key_order::{Keys, packed_in_order, packed_never_fall};
-use crate::show_packed::{Showed, show_element, show_member};
+use crate::key_order::{MemberKeys, packed_in_order, packed_never_fall};
+use crate::show_packed::{show_element, show_member};
 use json_doc::{Doc, DocChildren, DocNode, DocPairs, DocView};
-use json_io::{Sink, SinkError};
-use json_print::{BufferedWriter, Layout, show_piece};
+use json_io::{Sink, SinkError, SinkResult};
+use json_layout::{BufferedWriter, Layout, show_piece};
 use std::alloc::Global;
 
 /// A layout of texts in which the members of each object are sorted, and the memory for that: 16
@@ -49,7 +49,7 @@ pub fn show_sorted_document<W: Sink, L: Layout>(
     layout: SortedLayout<L>,
     level: usize,
     out: &mut BufferedWriter<W>,
-) -> Showed
+) -> SinkResult
     ensures { ShowsOrRunsOut (⟦<BufferedWriter<W> as Sink>⟧.state out.old)
         (⟦<BufferedWriter<W> as Sink>⟧.state out.new)
         (shown (L.indent layout.inner) level (sorted (view_tree view.entry))) result }
@@ -65,7 +65,7 @@ fn show_sorted_member<W: Sink, L: Layout>(
     layout: SortedLayout<L>,
     level: usize,
     out: &mut BufferedWriter<W>,
-) -> Showed
+) -> SinkResult
     ensures { ShowsOrRunsOut (⟦<BufferedWriter<W> as Sink>⟧.state out.old)
         (⟦<BufferedWriter<W> as Sink>⟧.state out.new)
         (shown (L.indent layout.inner) level (sorted (view_tree view.entry))) result }
@@ -86,7 +86,7 @@ fn show_sorted_element<W: Sink, L: Layout>(
     level: usize,
     first: bool,
     out: &mut BufferedWriter<W>,
-) -> Showed
+) -> SinkResult
     ensures { ShowsOrRunsOut (⟦<BufferedWriter<W> as Sink>⟧.state out.old)
         (⟦<BufferedWriter<W> as Sink>⟧.state out.new)
         (lead (L.indent layout.inner) level first ++ shown (L.indent layout.inner) level
@@ -112,7 +112,7 @@ fn show_sorted_children<W: Sink, L: Layout>(
     layout: SortedLayout<L>,
     level: usize,
     out: &mut BufferedWriter<W>,
-) -> Showed
+) -> SinkResult
     ensures { ShowsOrRunsOut (⟦<BufferedWriter<W> as Sink>⟧.state out.old)
         (⟦<BufferedWriter<W> as Sink>⟧.state out.new)
         (shown (L.indent layout.inner) level
@@ -148,7 +148,7 @@ pub fn show_sorted_members<W: Sink, L: Layout>(
     layout: SortedLayout<L>,
     level: usize,
     out: &mut BufferedWriter<W>,
-) -> Showed
+) -> SinkResult
     ensures { ShowsOrRunsOut (⟦<BufferedWriter<W> as Sink>⟧.state out.old)
         (⟦<BufferedWriter<W> as Sink>⟧.state out.new)
         (shown (L.indent layout.inner) level
@@ -157,7 +157,7 @@ pub fn show_sorted_members<W: Sink, L: Layout>(
     match view.node() {
         DocNode::Object(members) => {
             if keys_in_order(view) {
-                show_in_place(members, layout, level, out)
+                show_packed_in_place(members, layout, level, out)
             } else {
                 show_by_places(view.doc(), members, layout, level, out)
             }
@@ -168,12 +168,12 @@ pub fn show_sorted_members<W: Sink, L: Layout>(
 
 // An object whose keys are in order.
 #[cycle(shown_sorted)]
-fn show_in_place<W: Sink, L: Layout>(
+fn show_packed_in_place<W: Sink, L: Layout>(
     members: DocPairs<'_>,
     layout: SortedLayout<L>,
     level: usize,
     out: &mut BufferedWriter<W>,
-) -> Showed
+) -> SinkResult
     requires { NeverFall (list_pairs (pairs_left members)) }
     ensures { ShowsOrRunsOut (⟦<BufferedWriter<W> as Sink>⟧.state out.old)
         (⟦<BufferedWriter<W> as Sink>⟧.state out.new)
@@ -201,7 +201,7 @@ fn show_by_places<W: Sink, L: Layout>(
     layout: SortedLayout<L>,
     level: usize,
     out: &mut BufferedWriter<W>,
-) -> Showed
+) -> SinkResult
     requires { pairs_doc members ≡ doc.now }
     ensures { ShowsOrRunsOut (⟦<BufferedWriter<W> as Sink>⟧.state out.old)
         (⟦<BufferedWriter<W> as Sink>⟧.state out.new)
@@ -232,7 +232,7 @@ pub fn show_sorted_elements<W: Sink, L: Layout>(
     layout: SortedLayout<L>,
     level: usize,
     out: &mut BufferedWriter<W>,
-) -> Showed
+) -> SinkResult
     ensures { ShowsOrRunsOut (⟦<BufferedWriter<W> as Sink>⟧.state out.old)
         (⟦<BufferedWriter<W> as Sink>⟧.state out.new)
         (shown (L.indent layout.inner) level

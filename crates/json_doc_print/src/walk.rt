@@ -7,18 +7,18 @@ use json_io::Result;
 
 /// A call of the events failed. The events keep the error, and return it to each later call.
 #[derive(Clone, Copy)]
-pub struct Stopped;
+pub struct EventsFailed;
 
 /// What a walk that writes tokens returns.
-pub type Walked = std::result::Result<(), Stopped>;
+pub type EventsResult = std::result::Result<(), EventsFailed>;
 
-/// Returns whether a call of the events went well: fails with `Stopped` if `answer` is an error.
+/// Returns whether a call of the events went well: fails with `EventsFailed` if `answer` is an error.
 #[inline(always)]
-pub fn taken(answer: Result<()>) -> Walked
+pub fn events_result(answer: Result<()>) -> EventsResult
     ensures { is_ok result ≡ is_ok answer }
 {
     match answer {
         Ok(()) => Ok(()),
-        Err(_) => Err(Stopped),
+        Err(_) => Err(EventsFailed),
     }
 }

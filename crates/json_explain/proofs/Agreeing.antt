@@ -5,7 +5,7 @@ use Rattle.json_io.specs.declared.error.ErrorCode.TheVariants.{TypeUnmatched}
 use Rattle.json_model.specs.Datum.{Rows, no_rows}
 use Rattle.json_data.specs.Reading.{Reading, gives, refuses, Series, gives_all, stops, prepend_reading, as_list, each, two, row_step, rows_from, insert_row}
 use Rattle.json_explain.specs.Laws.{Agrees, Explained, WholeExplained, OptionExplained, ListExplained, PairExplained, MapExplained}
-use Rattle.json_explain.specs.Refused.{Refused, Step, element_step, member_step, map_reading, reading_refused, name_refused, first_refused, part_refused, elements_refused, two_refused, other_length, members_refused}
+use Rattle.json_explain.specs.Refused.{Refused, RefusedStep, element_step, member_step, map_reading, reading_refused, refused_by_name, refused_first, part_refused, elements_refused, two_refused, other_length, members_refused}
 use Rattle.json_explain.specs.declared.refusal.Wanted.{Wanted}
 
 at_reading : (r : Reading) (w : Wanted) (t : Tree) → Agrees r (reading_refused r w t)
@@ -23,7 +23,7 @@ option_explained f r h (text s) = h (text s)
 option_explained f r h (list ts) = h (list ts)
 option_explained f r h (pairs ps) = h (pairs ps)
 
-one_more : (x : Reading) (y : Option Refused) (s : Series) (o : Option Refused) (p : Step) → Agrees x y → Agrees (as_list s) o → Agrees (as_list (prepend_reading x s)) (first_refused (part_refused p y) o)
+one_more : (x : Reading) (y : Option Refused) (s : Series) (o : Option Refused) (p : RefusedStep) → Agrees x y → Agrees (as_list s) o → Agrees (as_list (prepend_reading x s)) (refused_first (part_refused p y) o)
 one_more (gives d) None (gives_all ds) None p h k = tt
 one_more (gives d) None (gives_all ds) (Some r) p h k = absurd k
 one_more (gives d) None (stops c) None p h k = absurd k
@@ -44,7 +44,7 @@ list_explained f r h (text s) = refl
 list_explained f r h (list ts) = each_explained f r h 0 ts
 list_explained f r h (pairs ps) = refl
 
-last_part : (x : Reading) (y : Option Refused) (p : Step) → Agrees x y → Agrees (as_list (prepend_reading x (gives_all []))) (part_refused p y)
+last_part : (x : Reading) (y : Option Refused) (p : RefusedStep) → Agrees x y → Agrees (as_list (prepend_reading x (gives_all []))) (part_refused p y)
 last_part (gives d) None p h = tt
 last_part (gives d) (Some r) p h = absurd h
 last_part (refuses c) None p h = absurd h
@@ -56,7 +56,7 @@ two_explained f g r s h k (tree_and t no_trees) = one_more (f t) (r t) (stops Ty
 two_explained f g r s h k (tree_and t (tree_and u no_trees)) =
     one_more (f t) (r t) (prepend_reading (g u) (gives_all [])) (part_refused (element_step 1) (s u)) (element_step 0) (h t) (last_part (g u) (s u) (element_step 1) (k u))
 two_explained f g r s h k (tree_and t (tree_and u (tree_and v ts))) =
-    one_more (f t) (r t) (prepend_reading (g u) (stops TypeUnmatched)) (first_refused (part_refused (element_step 1) (s u)) other_length) (element_step 0) (h t)
+    one_more (f t) (r t) (prepend_reading (g u) (stops TypeUnmatched)) (refused_first (part_refused (element_step 1) (s u)) other_length) (element_step 0) (h t)
     (one_more (g u) (s u) (stops TypeUnmatched) other_length (element_step 1) (k u) refl)
 
 pub pair_explained : PairExplained
@@ -67,8 +67,8 @@ pair_explained f g r s h k (text b) = refl
 pair_explained f g r s h k (list ts) = two_explained f g r s h k ts
 pair_explained f g r s h k (pairs ps) = refl
 
-row_more : (x y : Reading) (t : Tree) (z : Option Refused) (g : Rows → Reading) (rs : Rows) (o : Option Refused) (p : Step) → Agrees y z → ((qs : Rows) → Agrees (g qs) o)
-    → Agrees (row_step x y g rs) (first_refused (part_refused p (first_refused (name_refused x t) z)) o)
+row_more : (x y : Reading) (t : Tree) (z : Option Refused) (g : Rows → Reading) (rs : Rows) (o : Option Refused) (p : RefusedStep) → Agrees y z → ((qs : Rows) → Agrees (g qs) o)
+    → Agrees (row_step x y g rs) (refused_first (part_refused p (refused_first (refused_by_name x t) z)) o)
 row_more (refuses c) y t z g rs o p h k = refl
 row_more (gives d) (refuses c) t None g rs o p h k = absurd h
 row_more (gives d) (refuses c) t (Some r) g rs o p h k = h

@@ -6,7 +6,7 @@ use Rattle.json_data.proofs.Exits.{join-join}
 use Rattle.json_data.proofs.Lists.{join}
 use Rattle.json_data.proofs.Pairs.{join_pairs, join-join_pairs}
 use Rattle.json_explain.specs.Explaining.{IsWithin}
-use Rattle.json_explain.specs.Refused.{Refused, element_step, member_step, ObjectReading, lacks_member, refused_within, part_refused, first_refused, elements_refused, members_refused}
+use Rattle.json_explain.specs.Refused.{Refused, element_step, member_step, ObjectReading, lacks_member, refused_within, part_refused, refused_first, elements_refused, members_refused}
 
 pub join-nil : (ts : Trees) → join ts no_trees ≡ ts
 join-nil no_trees = refl
@@ -56,12 +56,12 @@ passed-none r = record { rest = λ us. refl; count = refl }
 pub passed-more : (r : Tree → Option Refused) (ts : Trees) (i : ℕ) (t : Tree) → Passed r ts i → r t ≡ None → Passed r (join ts (tree_and t no_trees)) (suc i)
 passed-more r ts i t h n = record {
   rest = λ us. ap (λ (vs : Trees). elements_refused r 0 vs) (join-join ts (tree_and t no_trees) us) ∙ h.rest (tree_and t us)
-      ∙ ap (λ (o : Option Refused). first_refused (part_refused (element_step i) o) (elements_refused r (suc i) us)) n;
+      ∙ ap (λ (o : Option Refused). refused_first (part_refused (element_step i) o) (elements_refused r (suc i) us)) n;
   count = ap length (trees_list-join ts (tree_and t no_trees)) ∙ one_longer (trees_list ts) t i h.count;
 }
 
 pub passed-stop : (r : Tree → Option Refused) (ts : Trees) (i : ℕ) (t : Tree) (us : Trees) (x : Refused) → Passed r ts i → r t ≡ Some x → elements_refused r 0 (join ts (tree_and t us)) ≡ Some (refused_within (element_step i) x)
-passed-stop r ts i t us x h n = h.rest (tree_and t us) ∙ ap (λ (o : Option Refused). first_refused (part_refused (element_step i) o) (elements_refused r (suc i) us)) n
+passed-stop r ts i t us x h n = h.rest (tree_and t us) ∙ ap (λ (o : Option Refused). refused_first (part_refused (element_step i) o) (elements_refused r (suc i) us)) n
 
 pub passed-end : (r : Tree → Option Refused) (ts : Trees) (i : ℕ) → Passed r ts i → elements_refused r 0 ts ≡ None
 passed-end r ts i h = ap (λ (vs : Trees). elements_refused r 0 vs) (sym (join-nil ts)) ∙ h.rest no_trees
@@ -78,14 +78,14 @@ pub members-more : (r : ObjectReading) (start : List Bool) (ps : Pairs) (i : ℕ
     → PassedMembers r start ps i seen → r.member k t ≡ None → new ≡ r.seen seen k → PassedMembers r start (join_pairs ps (pair_and k t no_pairs)) (suc i) new
 members-more r start ps i seen new k t h n e = record {
   rest = λ qs. ap (λ (rs : Pairs). members_refused r 0 start rs) (join-join_pairs ps (pair_and k t no_pairs) qs) ∙ h.rest (pair_and k t qs)
-      ∙ ap (λ (o : Option Refused). first_refused (part_refused (member_step i k) o) (members_refused r (suc i) (r.seen seen k) qs)) n
+      ∙ ap (λ (o : Option Refused). refused_first (part_refused (member_step i k) o) (members_refused r (suc i) (r.seen seen k) qs)) n
       ∙ ap (λ (bs : List Bool). members_refused r (suc i) bs qs) (sym e);
   count = ap length (pairs_list-join ps (pair_and k t no_pairs)) ∙ one_longer (pairs_list ps) (k, t) i h.count;
 }
 
 pub members-stop : (r : ObjectReading) (start : List Bool) (ps : Pairs) (i : ℕ) (seen : List Bool) (k : List ℕ) (t : Tree) (qs : Pairs) (x : Refused)
     → PassedMembers r start ps i seen → r.member k t ≡ Some x → members_refused r 0 start (join_pairs ps (pair_and k t qs)) ≡ Some (refused_within (member_step i k) x)
-members-stop r start ps i seen k t qs x h n = h.rest (pair_and k t qs) ∙ ap (λ (o : Option Refused). first_refused (part_refused (member_step i k) o) (members_refused r (suc i) (r.seen seen k) qs)) n
+members-stop r start ps i seen k t qs x h n = h.rest (pair_and k t qs) ∙ ap (λ (o : Option Refused). refused_first (part_refused (member_step i k) o) (members_refused r (suc i) (r.seen seen k) qs)) n
 
 pub members-end : (r : ObjectReading) (start : List Bool) (ps : Pairs) (i : ℕ) (seen : List Bool) → PassedMembers r start ps i seen → members_refused r 0 start ps ≡ option_map lacks_member (r.missing seen)
 members-end r start ps i seen h = ap (λ (rs : Pairs). members_refused r 0 start rs) (sym (join_pairs-nil ps)) ∙ h.rest no_pairs

@@ -13,17 +13,17 @@ use Rattle.json_io.specs.declared.error.Error.{Error}
 use Rattle.json_io.specs.declared.error.ErrorCode.{ErrorCode}
 use Rattle.json_io.specs.declared.error.ErrorCode.TheVariants as code
 use Rattle.json_io.specs.declared.error.Place.{Place}
-use Rattle.json_text.specs.Parsing.{input, taken}
+use Rattle.json_text.specs.Parsing.{input, consumed}
 use Rattle.json_data.specs.Calls.{TypedReadingFails, TypedReadingFailsWith}
 use Rattle.json_data.specs.Reading.{Reading}
 use Rattle.json_data.proofs.Left.{whole_left}
 use Rattle.json_tokens.specs.Refusals.{is_refusal}
-use Rattle.json_tokens.specs.Stand.{over_text, over_tree, TakesTree}
+use Rattle.json_tokens.specs.TokensStates.{over_text, over_tree, TakesTree}
 use Rattle.json_tokens.specs.Text.{TextTokensState, text_taken, text_tokens_state, HasReadValue}
-use Rattle.json_tokens.specs.Values.{ValueState, value_state, value_taken, value_stand, state_taken, rest_of, at_begin}
+use Rattle.json_tokens.specs.Values.{ValueState, value_state, value_taken, value_tokens_state, state_taken, rest_of_tokens, at_begin}
 use Rattle.json_tokens.specs.declared.value_tokens.ValueTokens.{ValueTokens}
 use Rattle.json_explain.specs.Refused.{Refused}
-use Rattle.json_explain.specs.Explaining.{refused_of, refused_in, IsWithin, IsPlaced, IsExplained, TextReads, TextRefused, TreeRefused, Explains}
+use Rattle.json_explain.specs.Explaining.{refused_of, refused_in, IsWithin, IsPlaced, IsExplained, FirstValueHolds, TextRefused, RefusedWhere, ExplainsTree}
 use Rattle.json_explain.specs.declared.explanation.Explanation.{Explanation}
 use Rattle.json_explain.specs.declared.refusal.Refusal.{Refusal}
 
@@ -45,8 +45,8 @@ module _ (s m : TextTokensState) (same : (text_tokens_state m).input ≡ (text_t
       let x = v (tokens t) (r.takes.on [] h) in
       let one : x.0 ≡ t = sym (tokens_injective t x.0 x.2) in
       let y : input m.parser ≡ drop i b = ap₂ drop (by_start same ∙ f) (by_text same ∙ e) in
-      let z : reads false (input m.parser) x.0 (taken m.parser) = subst (λ (l : Bool). reads l (input m.parser) x.0 (taken m.parser)) (by_mode same ∙ g) x.1 in
-      (taken m.parser, subst (λ (u : Tree). reads false (drop i b) u (taken m.parser)) one (subst (λ (w : List ℕ). reads false w x.0 (taken m.parser)) y z))
+      let z : reads false (input m.parser) x.0 (consumed m.parser) = subst (λ (l : Bool). reads l (input m.parser) x.0 (consumed m.parser)) (by_mode same ∙ g) x.1 in
+      (consumed m.parser, subst (λ (u : Tree). reads false (drop i b) u (consumed m.parser)) one (subst (λ (w : List ℕ). reads false w x.0 (consumed m.parser)) y z))
 
 -- a text whose tree is refused is the text of a tree of at most that many levels
 pub refused_text : (n : ℕ) (f : Tree → Reading) (b : List ℕ) (c : ErrorCode) (p : Place) → is_refusal c ≡ true → TypedReadingFails n f b c p → (t : Tree) × is_text false t b × (depth t ≤ n)
@@ -96,11 +96,11 @@ module _ (n : ℕ) (f : Tree → Option Refused) (b : List ℕ) (x : Explanation
   plain_error i r p h = plain_explained i r p (λ k. not_both (is_refusal e.code) k h)
 
   -- the tree is not refused
-  pub unrefused_explained : x.error ≡ e → x.refusal ≡ None → x.place ≡ e.place → ((u : Tree) × is_text false u b × (depth u ≤ n)) → TextReads (λ t. TreeRefused f t None) b → IsExplained n f b x
+  pub unrefused_explained : x.error ≡ e → x.refusal ≡ None → x.place ≡ e.place → ((u : Tree) × is_text false u b × (depth u ≤ n)) → FirstValueHolds (λ t. RefusedWhere f t None) b → IsExplained n f b x
   unrefused_explained i r p u k = plain_explained i r p (λ h. let w = text_of_reads n b k.0 u.0 k.1 u.1 u.2 k.2 in (k.0, w.0, w.1, k.3.0, tt))
 
   -- a refusal explains it
-  pub placed_explained : (r : Refusal) → x.error ≡ e → x.refusal ≡ Some r → is_refusal e.code ≡ true → ((u : Tree) × is_text false u b × (depth u ≤ n)) → TextReads (λ t. TreeRefused f t (Some (refused_of r))) b
+  pub placed_explained : (r : Refusal) → x.error ≡ e → x.refusal ≡ Some r → is_refusal e.code ≡ true → ((u : Tree) × is_text false u b × (depth u ≤ n)) → FirstValueHolds (λ t. RefusedWhere f t (Some (refused_of r))) b
       → ((t : Tree) → is_text false t b → depth t ≤ n → IsWithin t (refused_of r) → IsPlaced n b t x.place (refused_of r)) → IsExplained n f b x
   placed_explained r i q h u k p =
       let w = text_of_reads n b k.0 u.0 k.1 u.1 u.2 k.2 in
@@ -118,14 +118,14 @@ explained_of {f = f} {x = x} {n = n} {a = a} e i h = subst (λ (c : List ℕ). I
 -- ---- values
 
 -- the tree that was taken is the whole
-whole_tree : (a b : ValueTokens) (t u : Tree) → value_state a ≡ at_begin t → TakesTree value_taken value_stand a b u → u ≡ t
+whole_tree : (a b : ValueTokens) (t u : Tree) → value_state a ≡ at_begin t → TakesTree value_taken value_tokens_state a b u → u ≡ t
 whole_tree a b t u e h =
     let g = h.takes.on [] (subst (λ (s : ValueState). state_taken s []) (sym e) (append-nil (tokens t))) in
     let i : over_tree (value_state b).tree ≡ over_tree t = h.moves.input ∙ ap (λ (s : ValueState). over_tree s.tree) e in
     let j : (value_state b).tree ≡ t = cc in
-    whole_left t u (rest_of (value_state b)) (g ∙ ap tokens j)
+    whole_left t u (rest_of_tokens (value_state b)) (g ∙ ap tokens j)
 
-pub refused_value : (a b : ValueTokens) (t : Tree) (f : Tree → Option Refused) (r : Option Refused) → value_state a ≡ at_begin t → Explains value_taken value_stand f a b r → TreeRefused f t r
+pub refused_value : (a b : ValueTokens) (t : Tree) (f : Tree → Option Refused) (r : Option Refused) → value_state a ≡ at_begin t → ExplainsTree value_taken value_tokens_state f a b r → RefusedWhere f t r
 refused_value a b t f r e h =
     let i = whole_tree a b t h.tree e h.takes in
     (ap f (sym i) ∙ h.answer, subst (λ (u : Tree). IfSome r (IsWithin u)) i h.within)

@@ -15,33 +15,33 @@ use Rattle.json_text.specs.declared.event.Event.{Event}
 use Rattle.json_text.specs.declared.event.Event.TheVariants as event
 use Rattle.json_text.specs.Events.{Means, event_bytes}
 use Rattle.json_text.specs.Faults.{IsFault}
-use Rattle.json_text.specs.Parsing.{ParserState, HasGiven, SameInput, Goes, TakesToken, IsTight, ReadsNextEvent, StopsTight, RefusesOnErr, input, taken}
-use Rattle.json_text.specs.Standing.{Stood}
+use Rattle.json_text.specs.Parsing.{ParserState, HasGiven, SameInput, AdvancesTo, TakesToken, IsTight, ReadsNextEvent, StopsTight, RefusesOnErr, input, consumed}
+use Rattle.json_text.specs.Readers.{ReaderAt}
 use Rattle.json_text.proofs.NoText.{no_text}
 use Rattle.json_explain.specs.Explaining.{explained_step}
 use Rattle.json_explain.specs.Refused.{element_step, member_step}
 use Rattle.json_explain.specs.declared.refusal.Step.{Step as StepOf}
-use Rattle.json_explain.specs.Paths.{StepsTo, BeginsAt, OnTheWay, TakesNext, levels_behind}
+use Rattle.json_explain.specs.Paths.{StepsTo, BeginsAt, OnTheWay, TakesNext, levels_after_token}
 
 -- ---- one token
 
 -- the tokens so far, at an offset of the whole text
-pub stood_in : {limit : ℕ} {b : List ℕ} (s : ParserState) {xs : List Tok} → s.text ≡ b → s.start ≡ 0 → s.lossy ≡ false → s.limit ≡ limit → HasGiven s xs
-    → Stood false limit b s.index s.open_kinds s.spot xs
-stood_in {limit = limit} {b = b} s {xs = xs} e f g l h =
+pub reader_at_in : {limit : ℕ} {b : List ℕ} (s : ParserState) {xs : List Tok} → s.text ≡ b → s.start ≡ 0 → s.lossy ≡ false → s.limit ≡ limit → HasGiven s xs
+    → ReaderAt false limit b s.index s.open_kinds s.expected xs
+reader_at_in {limit = limit} {b = b} s {xs = xs} e f g l h =
     let u : input s ≡ b = ap₂ drop f e in
     let n : s.index - s.start ≡ s.index = omega (arith, f) in
-    let one = subst (λ (m : Bool). Stood m s.limit (input s) (taken s) s.open_kinds s.spot xs) g h in
-    let two = subst (λ (k : ℕ). Stood false k (input s) (taken s) s.open_kinds s.spot xs) l one in
-    let three = subst (λ (v : List ℕ). Stood false limit v (taken s) s.open_kinds s.spot xs) u two in
-    subst (λ (i : ℕ). Stood false limit b i s.open_kinds s.spot xs) n three
+    let one = subst (λ (m : Bool). ReaderAt m s.limit (input s) (consumed s) s.open_kinds s.expected xs) g h in
+    let two = subst (λ (k : ℕ). ReaderAt false k (input s) (consumed s) s.open_kinds s.expected xs) l one in
+    let three = subst (λ (v : List ℕ). ReaderAt false limit v (consumed s) s.open_kinds s.expected xs) u two in
+    subst (λ (i : ℕ). ReaderAt false limit b i s.open_kinds s.expected xs) n three
 
 -- the tokens so far begin those of the text's tree
 begins_tree : {limit : ℕ} {b : List ℕ} (s : ParserState) {xs : List Tok} (t : Tree) → s.text ≡ b → s.start ≡ 0 → s.lossy ≡ false → s.limit ≡ limit → HasGiven s xs → is_text_of false t b
     → (m : List Tok) × (tokens t ≡ xs ++ m)
 begins_tree {b = b} s t e f g l h w =
-    let p = (stood_in s e f g l h).given in
-    let base = (stood_in s e f g l h).base in
+    let p = (reader_at_in s e f g l h).given in
+    let base = (reader_at_in s e f g l h).base in
     events_begin false t (drop base b) p.at p.ends (subst (λ (y : List ℕ). is_text_of false t y) (sym (take-append-drop base b)) w)
 
 heads : (x y : Tok) (xs ys : List Tok) → x ∷ xs ≡ y ∷ ys → (x ≡ y) × (xs ≡ ys)
@@ -91,7 +91,7 @@ module _ {limit : ℕ} {b : List ℕ} {t : Tree} {old : ParserState} {xs ys : Li
         },
       )
 
-  next_event : (new : ParserState) (e : Event) → SameInput old new → OnTheWay limit b t old xs (x ∷ ys) → Goes old e new → IsTight old e new
+  next_event : (new : ParserState) (e : Event) → SameInput old new → OnTheWay limit b t old xs (x ∷ ys) → AdvancesTo old e new → IsTight old e new
       → Means e x × TakesToken old e new × OnTheWay limit b t new (xs ++ x ∷ []) ys
   next_event new event.Null q w g k = took new event.Null q w (g xs w.given) k
   next_event new (event.Bool v) q w g k = took new (event.Bool v) q w (g xs w.given) k
@@ -141,12 +141,12 @@ so_far_by {xs = xs} ys {zs = zs} {us = us} w v = so_far_is (append_cancel_right 
 abbrev pub closing : ℕ → List Tok → Option (List Tok)
 closing zero xs = Some xs
 closing (suc n) [] = None
-closing (suc n) (x ∷ xs) = closing (levels_behind x (suc n)) xs
+closing (suc n) (x ∷ xs) = closing (levels_after_token x (suc n)) xs
 
 -- the tokens after a value in which n containers are open: none is open before it
 abbrev pub ahead : ℕ → List Tok → Option (List Tok)
 ahead n [] = None
-ahead n (x ∷ xs) = closing (levels_behind x n) xs
+ahead n (x ∷ xs) = closing (levels_after_token x n) xs
 
 mutual
   closing_tree : (u : Tree) (n : ℕ) (xs : List Tok) → closing (suc n) (tokens u ++ xs) ≡ closing (suc n) xs
@@ -184,11 +184,11 @@ still_ahead (suc n) [] h = refl
 still_ahead (suc n) (x ∷ xs) h = refl
 
 -- one more token of a value
-pub goes_ahead : (m n : ℕ) (x : Tok) (xs rest : List Tok) → n ≡ levels_behind x m → n ≢ 0 → ahead m (x ∷ xs) ≡ Some rest → ahead n xs ≡ Some rest
+pub goes_ahead : (m n : ℕ) (x : Tok) (xs rest : List Tok) → n ≡ levels_after_token x m → n ≢ 0 → ahead m (x ∷ xs) ≡ Some rest → ahead n xs ≡ Some rest
 goes_ahead m n x xs rest e h a = sym (still_ahead n xs h) ∙ ap (λ (k : ℕ). closing k xs) e ∙ a
 
 -- its last token
-pub ends_ahead : (m n : ℕ) (x : Tok) (xs rest : List Tok) → n ≡ levels_behind x m → n ≡ 0 → ahead m (x ∷ xs) ≡ Some rest → xs ≡ rest
+pub ends_ahead : (m n : ℕ) (x : Tok) (xs rest : List Tok) → n ≡ levels_after_token x m → n ≡ 0 → ahead m (x ∷ xs) ≡ Some rest → xs ≡ rest
 ends_ahead m n x xs rest e h a = let c : Some xs ≡ Some rest = ap (λ (k : ℕ). closing k xs) (sym h ∙ e) ∙ a in cc
 
 pub same_input : {a b c : ParserState} → SameInput a b → SameInput b c → SameInput a c
@@ -204,11 +204,11 @@ pub record GoesOn (limit : ℕ) (b : List ℕ) (t : Tree) (new : ParserState) (m
   pub token : Tok
   pub others : List Tok
   pub goes : OnTheWay limit b t new before others
-  pub levels : n ≡ levels_behind token m
+  pub levels : n ≡ levels_after_token token m
   pub left : ahead m (token ∷ others) ≡ Some rest
 
 pub goes_on : {limit : ℕ} {b : List ℕ} {t : Tree} {old new : ParserState} (o : Option Event) (e : Event) (m n : ℕ) {zs ws rest : List Tok}
-    → o ≡ Some e → TakesAny limit b t old new o → ((x : Tok) → Means e x → n ≡ levels_behind x m) → OnTheWay limit b t old zs ws → ahead m ws ≡ Some rest → GoesOn limit b t new m n rest
+    → o ≡ Some e → TakesAny limit b t old new o → ((x : Tok) → Means e x → n ≡ levels_after_token x m) → OnTheWay limit b t old zs ws → ahead m ws ≡ Some rest → GoesOn limit b t new m n rest
 goes_on o e m n {zs = zs} {ws = ws} {rest = rest} i f g w a =
     let h = some_ahead m ws rest a in
     let k = f zs h.1 h.0 (ahead_is h.2 w) in
@@ -335,9 +335,9 @@ begins_at {b = b} {old = old} {new = new} {ys = ys} zs {x = x} w e n =
     let u : new.text ≡ b = n.goes.text in
     record {
       opened = old.open_kinds;
-      expected = old.spot;
+      expected = old.expected;
       before = old.index;
-      stood = stood_in old w.text w.start w.mode w.limit_is w.given;
+      reader = reader_at_in old w.text w.start w.mode w.limit_is w.given;
       gap = subst (λ (y : List ℕ). IsGap (piece y old.index k.begins)) u k.gap;
       first = x;
       rest = ys;

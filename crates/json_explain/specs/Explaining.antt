@@ -7,10 +7,10 @@ use Rattle.json_io.specs.declared.error.Place.{Place}
 use Rattle.json_io.specs.Positions.{place_at}
 use Rattle.json_doc.specs.Readings.{type_of}
 use Rattle.json_tokens.specs.Refusals.{is_refusal}
-use Rattle.json_tokens.specs.Stand.{TokensState, TakesTree}
+use Rattle.json_tokens.specs.TokensStates.{TokensState, TakesTree}
 use Rattle.json_explain.specs.declared.explanation.Explanation.{Explanation}
-use Rattle.json_explain.specs.Refused.{Refused, Step as StepOf, element_step, member_step}
-use Rattle.json_explain.specs.Paths.{LeadsTo, BeginsAt}
+use Rattle.json_explain.specs.Refused.{Refused, RefusedStep as StepOf, element_step, member_step}
+use Rattle.json_explain.specs.Paths.{PathLeadsTo, BeginsAt}
 use Rattle.json_explain.specs.declared.refusal.Step.{Step}
 use Rattle.json_explain.specs.declared.refusal.Step.TheVariants as step
 use Rattle.json_explain.specs.declared.refusal.Refusal.{Refusal}
@@ -25,25 +25,25 @@ refusal_steps r = map explained_step r.steps.items
 
 -- what a refusal says
 abbrev pub refused_of : Refusal → Refused
-refused_of r = record { path = refusal_steps r; code = r.code; member = option_map string_bytes r.member; wanted = r.wanted; found = r.found }
+refused_of r = record { path = refusal_steps r; code = r.code; member = option_map string_bytes r.member; wanted = r.wanted; found_type = r.found_type }
 
 abbrev pub refused_in : Option Refusal → Option Refused
 refused_in o = option_map refused_of o
 
 -- the path leads to a value of t, which is of the kind that was found
 abbrev pub IsWithin : Tree → Refused → Type 0
-IsWithin t x = (v : Tree) × (xs : List Tok) × LeadsTo t x.path v xs × (type_of v ≡ x.found)
+IsWithin t x = (v : Tree) × (xs : List Tok) × PathLeadsTo t x.path v xs × (type_of v ≡ x.found_type)
 
 -- one tree was taken, and r is where it is refused: at a value of it
-pub record Explains {S : Type 0} (taken : S → List Tok → Type 0) (stand : S → TokensState) (f : Tree → Option Refused) (a b : S) (r : Option Refused) : Type 0 where
+pub record ExplainsTree {S : Type 0} (taken : S → List Tok → Type 0) (state : S → TokensState) (f : Tree → Option Refused) (a b : S) (r : Option Refused) : Type 0 where
   pub tree : Tree
-  pub takes : TakesTree taken stand a b tree
+  pub takes : TakesTree taken state a b tree
   pub answer : f tree ≡ r
   pub within : IfSome r (IsWithin tree)
 
 -- the path leads to a value of t, which is of the kind that was found, and begins in the text b at the place p
 abbrev pub IsPlaced : ℕ → List ℕ → Tree → Place → Refused → Type 0
-IsPlaced limit b t p x = (v : Tree) × (xs : List Tok) × LeadsTo t x.path v xs × (type_of v ≡ x.found) × (i : ℕ) × BeginsAt limit b xs v i × (p ≡ place_at b i)
+IsPlaced limit b t p x = (v : Tree) × (xs : List Tok) × PathLeadsTo t x.path v xs × (type_of v ≡ x.found_type) × (i : ℕ) × BeginsAt limit b xs v i × (p ≡ place_at b i)
 
 -- the bytes are a text of a tree of at most that many levels, and r is where that is refused, if it
 -- is; p is the place of the value there
@@ -57,9 +57,9 @@ pub record IsExplained (limit : ℕ) (f : Tree → Option Refused) (b : List ℕ
   pub elsewhere : x.refusal ≡ None → x.place ≡ x.error.place
 
 -- the value that the bytes begin with has a tree of which this holds
-abbrev pub TextReads : (Tree → Type 0) → List ℕ → Type 0
-TextReads P b = (t : Tree) × (k : ℕ) × reads false b t k × P t
+abbrev pub FirstValueHolds : (Tree → Type 0) → List ℕ → Type 0
+FirstValueHolds P b = (t : Tree) × (k : ℕ) × reads false b t k × P t
 
 -- r is where the tree is refused, if it is: at a value of it
-abbrev pub TreeRefused : (Tree → Option Refused) → Tree → Option Refused → Type 0
-TreeRefused f t r = (f t ≡ r) × IfSome r (IsWithin t)
+abbrev pub RefusedWhere : (Tree → Option Refused) → Tree → Option Refused → Type 0
+RefusedWhere f t r = (f t ≡ r) × IfSome r (IsWithin t)

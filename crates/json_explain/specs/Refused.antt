@@ -12,44 +12,44 @@ use Rattle.json_explain.specs.declared.refusal.Wanted.TheVariants as wanted
 
 -- a step from a container to one of its values: to the element with this index, or to the member with this index, which has this name.
 -- A name may repeat (RFC 8259, section 4), so the name alone does not say which member it is
-pub data Step : Type 0 where
-  element_step : ℕ → Step
-  member_step : ℕ → List ℕ → Step
+pub data RefusedStep : Type 0 where
+  element_step : ℕ → RefusedStep
+  member_step : ℕ → List ℕ → RefusedStep
 
 -- the path from the whole value to the innermost one that is refused, why, the name of the member that is missing there, if one is,
 -- what is wanted in its place, if any value is, and what it is
 pub record Refused : Type 0 where
-  pub path : List Step
+  pub path : List RefusedStep
   pub code : ErrorCode
   pub member : Option (List ℕ)
   pub wanted : Option Wanted
-  pub found : JsonType
+  pub found_type : JsonType
 
 -- the value itself is refused, and not one within it
 abbrev pub refused_here : ErrorCode → Option (List ℕ) → Option Wanted → JsonType → Refused
-refused_here c m w j = record { path = []; code = c; member = m; wanted = w; found = j }
+refused_here c m w j = record { path = []; code = c; member = m; wanted = w; found_type = j }
 
 abbrev pub here : ErrorCode → Wanted → Tree → Refused
 here c w t = refused_here c None (Some w) (type_of t)
 
 -- it is refused because of the name of its member
-abbrev pub key_refused : ErrorCode → Tree → Refused
-key_refused c t = refused_here c None None (type_of t)
+abbrev pub refused_by_key : ErrorCode → Tree → Refused
+refused_by_key c t = refused_here c None None (type_of t)
 
 -- an object is refused because it has no member of that name
 abbrev pub lacks_member : List ℕ → Refused
 lacks_member k = refused_here TypeUnmatched (Some k) None kind.Object
 
 -- as seen from the container around it
-abbrev pub refused_within : Step → Refused → Refused
+abbrev pub refused_within : RefusedStep → Refused → Refused
 refused_within s r = record r { path = s ∷ r.path }
 
-abbrev pub part_refused : Step → Option Refused → Option Refused
+abbrev pub part_refused : RefusedStep → Option Refused → Option Refused
 part_refused s o = option_map (refused_within s) o
 
-abbrev pub first_refused : Option Refused → Option Refused → Option Refused
-first_refused (Some r) o = Some r
-first_refused None o = o
+abbrev pub refused_first : Option Refused → Option Refused → Option Refused
+refused_first (Some r) o = Some r
+refused_first None o = o
 
 -- ---- values without parts
 
@@ -69,7 +69,7 @@ option_refused r t = r t
 -- the first element that is refused, where the first of them has the index i
 abbrev pub elements_refused : (Tree → Option Refused) → ℕ → Trees → Option Refused
 elements_refused r i no_trees = None
-elements_refused r i (tree_and t ts) = first_refused (part_refused (element_step i) (r t)) (elements_refused r (suc i) ts)
+elements_refused r i (tree_and t ts) = refused_first (part_refused (element_step i) (r t)) (elements_refused r (suc i) ts)
 
 abbrev pub list_refused : (Tree → Option Refused) → Tree → Option Refused
 list_refused r (list ts) = elements_refused r 0 ts
@@ -82,10 +82,10 @@ other_length = Some (refused_here TypeUnmatched None (Some wanted.Pair) kind.Arr
 -- of an array of two, the first element that is refused, and then the array, if it has another length
 abbrev pub two_refused : (Tree → Option Refused) → (Tree → Option Refused) → Trees → Option Refused
 two_refused r s no_trees = other_length
-two_refused r s (tree_and t no_trees) = first_refused (part_refused (element_step 0) (r t)) other_length
-two_refused r s (tree_and t (tree_and u no_trees)) = first_refused (part_refused (element_step 0) (r t)) (part_refused (element_step 1) (s u))
+two_refused r s (tree_and t no_trees) = refused_first (part_refused (element_step 0) (r t)) other_length
+two_refused r s (tree_and t (tree_and u no_trees)) = refused_first (part_refused (element_step 0) (r t)) (part_refused (element_step 1) (s u))
 two_refused r s (tree_and t (tree_and u (tree_and v ts))) =
-    first_refused (part_refused (element_step 0) (r t)) (first_refused (part_refused (element_step 1) (s u)) other_length)
+    refused_first (part_refused (element_step 0) (r t)) (refused_first (part_refused (element_step 1) (s u)) other_length)
 
 abbrev pub pair_refused : (Tree → Option Refused) → (Tree → Option Refused) → Tree → Option Refused
 pair_refused r s (list ts) = two_refused r s ts
@@ -103,7 +103,7 @@ pub record ObjectReading : Type 0 where
 -- the first member that is refused, where the first of them has the index i, or else the object, where a member is missing
 abbrev pub members_refused : ObjectReading → ℕ → List Bool → Pairs → Option Refused
 members_refused r i seen no_pairs = option_map lacks_member (r.missing seen)
-members_refused r i seen (pair_and k t ps) = first_refused (part_refused (member_step i k) (r.member k t)) (members_refused r (suc i) (r.seen seen k) ps)
+members_refused r i seen (pair_and k t ps) = refused_first (part_refused (member_step i k) (r.member k t)) (members_refused r (suc i) (r.seen seen k) ps)
 
 abbrev pub object_refused : ObjectReading → List Bool → Tree → Option Refused
 object_refused r seen (pairs ps) = members_refused r 0 seen ps
@@ -111,12 +111,12 @@ object_refused r seen t = Some (here TypeUnmatched wanted.Object t)
 
 -- ---- maps: a key is refused before its value, and none is missing
 
-abbrev pub name_refused : Reading → Tree → Option Refused
-name_refused (gives d) t = None
-name_refused (refuses c) t = Some (key_refused c t)
+abbrev pub refused_by_name : Reading → Tree → Option Refused
+refused_by_name (gives d) t = None
+refused_by_name (refuses c) t = Some (refused_by_key c t)
 
 abbrev pub map_reading : (List ℕ → Reading) → (Tree → Option Refused) → ObjectReading
-map_reading f r = record { member = λ k t. first_refused (name_refused (f k) t) (r t); seen = λ bs k. bs; missing = λ bs. None }
+map_reading f r = record { member = λ k t. refused_first (refused_by_name (f k) t) (r t); seen = λ bs k. bs; missing = λ bs. None }
 
 -- ---- structs
 
@@ -130,7 +130,7 @@ abbrev pub field_reading : List ℕ → (Tree → Option Refused) → Bool → F
 field_reading k r b = record { name = k; refused = r; needed = b }
 
 abbrev pub unknown_refused : Bool → Tree → Option Refused
-unknown_refused true t = Some (key_refused TypeUnmatched t)
+unknown_refused true t = Some (refused_by_key TypeUnmatched t)
 unknown_refused false t = None
 
 -- a member of another name is refused under strict

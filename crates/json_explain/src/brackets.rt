@@ -6,17 +6,17 @@ ghost use Rattle.json_doc.specs.Readings.{type_of};
 ghost use Rattle.json_tokens.specs.declared.token.TokenKind.TheVariants as TokenKind;
 ghost use Rattle.json_tokens.specs.Kinds.{kind_of, first_kind};
 ghost use Rattle.json_tokens.specs.Pieces.{Says};
-ghost use Rattle.json_tokens.specs.Spots.{InObject};
-ghost use Rattle.json_tokens.specs.Stand.{NotWhole, WantsValue, TakesOne, TakesTree, TakesKeyPiece, FailsWithTokens};
+ghost use Rattle.json_tokens.specs.ExpectedTokens.{InObject};
+ghost use Rattle.json_tokens.specs.TokensStates.{NotWhole, WantsValue, TakesOne, TakesTree, TakesKeyPiece, FailsWithTokens};
 
-use crate::kinds::type_of as type_of_kind;
-use json_data::{Lent, Piece, Token, TokenKind, Tokens};
+use crate::kinds::type_of_token as type_of_kind;
 use json_doc::JsonType;
 use json_grammar::Kind;
-use json_text::Result;
+use json_io::Result;
+use json_tokens::{InputStr, Piece, Token, TokenKind, Tokens};
 
 // The kind of the token that opens a container of the kind.
-fn begin_kind(kind: Kind) -> TokenKind
+fn opening_kind(kind: Kind) -> TokenKind
     ensures { result ≡ kind_of (begin_token kind) }
 {
     match kind {
@@ -27,17 +27,20 @@ fn begin_kind(kind: Kind) -> TokenKind
 
 // Takes the bracket that opens a container of the kind. Another value is taken whole, and its kind is
 // returned.
-pub(crate) fn open<S: Lent, T: Tokens<S>>(tokens: &mut T, kind: Kind) -> Result<Option<JsonType>>
-    requires { WantsValue (T.stand tokens.old) }
+pub(crate) fn open_or_skip<S: InputStr, T: Tokens<S>>(
+    tokens: &mut T,
+    kind: Kind,
+) -> Result<Option<JsonType>>
+    requires { WantsValue (T.state tokens.old) }
     ensures begun { IfOk result (λ o. o ≡ None
-        → TakesOne T.taken T.stand tokens.old tokens.new (begin_token kind)) }
-    ensures other { IfOk result (λ o. IfSome o (λ found.
-        (t : Tree) × TakesTree T.taken T.stand tokens.old tokens.new t
-        × (first_kind t ≢ kind_of (begin_token kind)) × (type_of t ≡ found))) }
-    ensures err { FailsWithTokens (T.stand tokens.old) (T.stand tokens.new) result }
+        → TakesOne T.taken T.state tokens.old tokens.new (begin_token kind)) }
+    ensures other { IfOk result (λ o. IfSome o (λ found_type.
+        (t : Tree) × TakesTree T.taken T.state tokens.old tokens.new t
+        × (first_kind t ≢ kind_of (begin_token kind)) × (type_of t ≡ found_type))) }
+    ensures err { FailsWithTokens (T.state tokens.old) (T.state tokens.new) result }
 {
     let next = tokens.peek()?;
-    if next != begin_kind(kind) {
+    if next != opening_kind(kind) {
         tokens.skip()?;
         return Ok(Some(type_of_kind(next)));
     }
@@ -46,22 +49,22 @@ pub(crate) fn open<S: Lent, T: Tokens<S>>(tokens: &mut T, kind: Kind) -> Result<
 }
 
 // Takes the next token.
-pub(crate) fn pass<S: Lent, T: Tokens<S>>(tokens: &mut T) -> Result<()>
-    requires { NotWhole (T.stand tokens.old) }
-    ensures ok { OnOk result ((x : Tok) × TakesOne T.taken T.stand tokens.old tokens.new x) }
-    ensures err { FailsWithTokens (T.stand tokens.old) (T.stand tokens.new) result }
+pub(crate) fn skip_next<S: InputStr, T: Tokens<S>>(tokens: &mut T) -> Result<()>
+    requires { NotWhole (T.state tokens.old) }
+    ensures ok { OnOk result ((x : Tok) × TakesOne T.taken T.state tokens.old tokens.new x) }
+    ensures err { FailsWithTokens (T.state tokens.old) (T.state tokens.new) result }
 {
     let _token = tokens.next()?;
     Ok(())
 }
 
 // Returns the next key.
-fn next_key<S: Lent, T: Tokens<S>>(tokens: &mut T) -> Result<Piece<S>>
-    requires whole { NotWhole (T.stand tokens.old) }
-    requires told { (T.stand tokens.old).told ≡ Some TokenKind.Key }
+fn read_next_key<S: InputStr, T: Tokens<S>>(tokens: &mut T) -> Result<Piece<S>>
+    requires whole { NotWhole (T.state tokens.old) }
+    requires peeked { (T.state tokens.old).peeked ≡ Some TokenKind.Key }
     ensures ok { IfOk result (λ p. (s : List ℕ) × Says s p.escaped (S.bytes p.text)
-        × TakesOne T.taken T.stand tokens.old tokens.new (key_token s)) }
-    ensures err { FailsWithTokens (T.stand tokens.old) (T.stand tokens.new) result }
+        × TakesOne T.taken T.state tokens.old tokens.new (key_token s)) }
+    ensures err { FailsWithTokens (T.state tokens.old) (T.state tokens.new) result }
 {
     match tokens.next()? {
         Token::Key(piece) => Ok(piece),
@@ -70,19 +73,19 @@ fn next_key<S: Lent, T: Tokens<S>>(tokens: &mut T) -> Result<Piece<S>>
 }
 
 // Returns the next name in an object, or `None` if the object ends, whose end is taken.
-pub(crate) fn next_name<S: Lent, T: Tokens<S>>(tokens: &mut T) -> Result<Option<Piece<S>>>
-    requires { InObject (T.stand tokens.old).spot }
+pub(crate) fn read_next_name<S: InputStr, T: Tokens<S>>(tokens: &mut T) -> Result<Option<Piece<S>>>
+    requires { InObject (T.state tokens.old).expected }
     ensures name { IfOk result (λ r. IfSome r (λ p.
-        TakesKeyPiece T.taken T.stand
+        TakesKeyPiece T.taken T.state
         (λ s. Says s p.escaped (S.bytes p.text)) tokens.old tokens.new)) }
     ensures end { IfOk result (λ r. r ≡ None
-        → TakesOne T.taken T.stand tokens.old tokens.new (end_token object)) }
-    ensures err { FailsWithTokens (T.stand tokens.old) (T.stand tokens.new) result }
+        → TakesOne T.taken T.state tokens.old tokens.new (end_token object)) }
+    ensures err { FailsWithTokens (T.state tokens.old) (T.state tokens.new) result }
 {
     if tokens.peek()? == TokenKind::EndObject {
-        pass(tokens)?;
+        skip_next(tokens)?;
         return Ok(None);
     }
-    let key = next_key(tokens)?;
+    let key = read_next_key(tokens)?;
     Ok(Some(key))
 }

@@ -6,21 +6,22 @@ ghost use Rattle.json_io.specs.Errors.{no_memory, reading_failed};
 ghost use Rattle.json_io.specs.Transfer.{ReadsWithin, ReadingCause, TakesOneBeyond};
 ghost use Rattle.json_text.specs.Ruled.{rules_of};
 ghost use Rattle.json_value.specs.Denotes.{tree_of};
-ghost use Rattle.json_value.specs.Sights.{whole_value};
+ghost use Rattle.json_value.specs.ViewTargets.{whole_value};
 ghost use Rattle.json_data.specs.Calls.{most, ReadsTypedText, TypedReadingFails, ReadsTextWith, TypedReadingFailsWith, ReadsSource, SourceFails};
 ghost use Rattle.json_data.specs.ValueCalls.{TreeReadingFails};
 ghost use Rattle.json_data.specs.Reading.{gives};
 ghost use Rattle.json_tokens.specs.Refusals.{is_refusal as spec_is_refusal};
 ghost use Rattle.json_tokens.specs.TextValues.{IsPackedAtRoot};
 ghost use Rattle.json_tokens.specs.Values.{IsMadeOf};
-ghost use Rattle.json_explain.specs.Explaining.{refused_of, refused_in, IsWithin, IsPlaced, IsExplained, TextReads, TextRefused, TreeRefused};
+ghost use Rattle.json_explain.specs.Explaining.{refused_of, refused_in, IsWithin, IsPlaced, IsExplained, FirstValueHolds, TextRefused, RefusedWhere};
 
 use crate::explain::Explain;
 use crate::explanation::Explanation;
-use crate::place::offset_of;
+use crate::place::offset_at_path;
 use crate::refusal::Refusal;
-use json_data::{TextTokens, ValueTokens, is_refusal, refusal};
-use json_text::{Error, ErrorCode, Result, Rules, Source, check_utf8, place_of, read_all};
+use json_io::{Error, ErrorCode, Result, Source, check_utf8, place_of, read_all};
+use json_text::Rules;
+use json_tokens::{TextTokens, ValueTokens, error_without_place, is_refusal};
 use json_value::Value;
 use std::alloc::Global;
 
@@ -37,7 +38,7 @@ fn refusal_of<'a, T: Explain<&'a str>>(
     depth: u32,
 ) -> Result<Option<Refusal>>
     requires { depth ≤ 1024 }
-    ensures { IfOk result (λ o. TextReads (λ t. TreeRefused T.refused t (refused_in o)) text.now) }
+    ensures { IfOk result (λ o. FirstValueHolds (λ t. RefusedWhere T.refused t (refused_in o)) text.now) }
 {
     let mut tokens = TextTokens::new(text).depth(depth);
     match T::explain(alloc, &mut tokens) {
@@ -50,7 +51,7 @@ fn refusal_of<'a, T: Explain<&'a str>>(
 }
 
 // An error with the refusal that explains it, and with the place of the value that is refused.
-fn placed(text: &str, depth: u32, error: Error, refusal: Refusal) -> Explanation
+fn explained_at(text: &str, depth: u32, error: Error, refusal: Refusal) -> Explanation
     requires { depth ≤ 1024 }
     ensures error { result.error ≡ error }
     ensures refusal { result.refusal ≡ Some refusal }
@@ -58,7 +59,7 @@ fn placed(text: &str, depth: u32, error: Error, refusal: Refusal) -> Explanation
         → IsWithin t (refused_of refusal)
         → IsPlaced depth text.now t result.place (refused_of refusal) }
 {
-    match offset_of(text, depth, refusal.steps()) {
+    match offset_at_path(text, depth, refusal.steps()) {
         Some(offset) => {
             let bytes = text.as_bytes();
             let within = offset.min(bytes.len());
@@ -92,9 +93,9 @@ fn explained<'a, T: Explain<&'a str>>(
         return Explanation::plain(error);
     }
     match refusal_of::<T>(alloc, text, depth) {
-        Ok(Some(refusal)) => placed(text, depth, error, refusal),
+        Ok(Some(refusal)) => explained_at(text, depth, error, refusal),
         Ok(None) => Explanation::plain(error),
-        Err(_) => Explanation::plain(refusal(ErrorCode::NoMemory)),
+        Err(_) => Explanation::plain(error_without_place(ErrorCode::NoMemory)),
     }
 }
 
@@ -191,13 +192,13 @@ pub fn from_slice_with<'a, T: Explain<&'a str>>(
 }
 
 // Puts all that the source has left into the room, in place of what it had.
-fn fill<S: Source>(alloc: Global, source: &mut S, room: &mut Vec<u8>) -> Result<()>
+fn fill_room<S: Source>(alloc: Global, source: &mut S, room: &mut Vec<u8>) -> Result<()>
     ensures bytes { OnOk result
         (ReadsWithin most (S.state source.old) (S.state source.new) room.new.items) }
     ensures kept { OnErr result (room.new ≡ room.old) }
     ensures cause { IfErr result (λ e.
         ReadingCause most (S.state source.old) (S.state source.new) e.code e.place) }
-    ensures told { (S.state source.old).faults < (S.state source.new).faults
+    ensures read_error { (S.state source.old).faults < (S.state source.new).faults
         → IsErrOf result reading_failed }
     ensures taken { TakesOneBeyond most (S.state source.old) (S.state source.new) }
 {
@@ -232,11 +233,11 @@ pub fn from_reader<'a, S: Source, T: Explain<&'a str>>(
         × TextRefused 254 T.refused b (refused_in x.refusal) x.place) }
     ensures plain { IfErr result (λ x. spec_is_refusal x.error.code ≡ false → x.refusal ≡ None) }
     ensures elsewhere { IfErr result (λ x. x.refusal ≡ None → x.place ≡ x.error.place) }
-    ensures told { (S.state source.old).faults < (S.state source.new).faults
+    ensures read_error { (S.state source.old).faults < (S.state source.new).faults
         → IsErr result × IfErr result (λ x. x.error ≡ reading_failed) }
     ensures taken { TakesOneBeyond most (S.state source.old) (S.state source.new) }
 {
-    match fill(alloc, source, room) {
+    match fill_room(alloc, source, room) {
         Ok(()) => from_slice(alloc, room.as_slice()),
         Err(error) => Err(Explanation::plain(error)),
     }
@@ -263,7 +264,7 @@ pub fn from_value<'a, T: Explain<&'a str>>(
     ensures err { IfErr result (λ x.
         TreeReadingFails T.from_tree (tree_of value.now) x.error.code x.error.place) }
     ensures refused { IfErr result (λ x. spec_is_refusal x.error.code ≡ true
-        → TreeRefused T.refused (tree_of value.now) (refused_in x.refusal)) }
+        → RefusedWhere T.refused (tree_of value.now) (refused_in x.refusal)) }
     ensures plain { IfErr result (λ x. spec_is_refusal x.error.code ≡ false → x.refusal ≡ None) }
     ensures unplaced { IfErr result (λ x. x.place ≡ x.error.place) }
 {
@@ -281,7 +282,7 @@ fn explained_value<'a, T: Explain<&'a str>>(
 ) -> Explanation
     ensures error { (result.error ≡ error) ⊎ (result.error ≡ no_memory) }
     ensures refused { spec_is_refusal result.error.code ≡ true
-        → TreeRefused T.refused (tree_of value.now) (refused_in result.refusal) }
+        → RefusedWhere T.refused (tree_of value.now) (refused_in result.refusal) }
     ensures plain { spec_is_refusal result.error.code ≡ false → result.refusal ≡ None }
     ensures unplaced { result.place ≡ result.error.place }
 {
@@ -295,6 +296,6 @@ fn explained_value<'a, T: Explain<&'a str>>(
             refusal,
             place: error.place,
         },
-        Err(_) => Explanation::plain(refusal(ErrorCode::NoMemory)),
+        Err(_) => Explanation::plain(error_without_place(ErrorCode::NoMemory)),
     }
 }

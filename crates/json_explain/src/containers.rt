@@ -6,29 +6,29 @@ ghost use Rattle.json_io.specs.Errors.{OnlyNoMemory};
 ghost use Rattle.json_io.specs.declared.error.ErrorCode.TheVariants.{TypeUnmatched};
 ghost use Rattle.json_tokens.specs.Pieces.{Says};
 ghost use Rattle.json_data.specs.Reader.{GivesUp, GivesUpOnErr};
-ghost use Rattle.json_tokens.specs.Spots.{IsOpen, InArray, InObject};
-ghost use Rattle.json_tokens.specs.Stand.{WantsValue, TakesOne, Leaves};
+ghost use Rattle.json_tokens.specs.ExpectedTokens.{IsOpen, InArray, InObject};
+ghost use Rattle.json_tokens.specs.TokensStates.{WantsValue, TakesOne, Leaves};
 ghost use Rattle.json_explain.specs.Refused.{ObjectReading, lacks_member, list_refused, object_refused, refused_here, refused_within as spec_within};
-ghost use Rattle.json_explain.specs.Explaining.{Explains, refused_in, refused_of, explained_step};
+ghost use Rattle.json_explain.specs.Explaining.{ExplainsTree, refused_in, refused_of, explained_step};
 
-use crate::brackets::{next_name, open, pass};
+use crate::brackets::{open_or_skip, read_next_name, skip_next};
 use crate::explain::Explain;
 use crate::refusal::{Refusal, Step, Wanted};
-use json_data::{Lent, Piece, TokenKind, Tokens, refusal};
 use json_doc::JsonType;
 use json_grammar::Kind;
-use json_text::{ErrorCode, Result};
+use json_io::{ErrorCode, Result};
+use json_tokens::{InputStr, Piece, TokenKind, Tokens, error_without_place};
 use std::alloc::Global;
 
 /// The members of an object, explained one after another.
 ///
 /// ```
-/// use json_data::{Lent, TextTokens, Tokens};
+/// use json_data::{InputStr, TextTokens, Tokens};
 /// use json_explain::{ExplainMembers, Piece, Refusal, explain_key, explain_members};
 /// use json_text::ErrorCode;
 /// #[derive(Drop)]
 /// struct NoMembers(bool);
-/// impl<S: Lent> ExplainMembers<S> for NoMembers {
+/// impl<S: InputStr> ExplainMembers<S> for NoMembers {
 ///     ghost use Rattle.std.specs.Prelude.{[], true};
 ///     ghost use Rattle.json_explain.specs.Refused.{struct_reading};
 ///     ghost reading = { struct_reading true [] };
@@ -48,10 +48,10 @@ use std::alloc::Global;
 /// }
 /// let mut members = NoMembers(true);
 /// let mut tokens = TextTokens::new("{\"a\": 1}");
-/// let refusal = explain_members(alloc, &mut members, &mut tokens)?.ok_or("no refusal")?;
-/// assert_eq!(rt; format!(in alloc; "{refusal}")?.as_str(), "/a");
+/// let error_without_place = explain_members(alloc, &mut members, &mut tokens)?.ok_or("no error_without_place")?;
+/// assert_eq!(rt; format!(in alloc; "{error_without_place}")?.as_str(), "/a");
 /// ```
-pub trait ExplainMembers<S: Lent>: Sized {
+pub trait ExplainMembers<S: InputStr>: Sized {
     /// How the members are read.
     ghost reading: { ObjectReading };
 
@@ -68,12 +68,12 @@ pub trait ExplainMembers<S: Lent>: Sized {
         name: &str,
         tokens: &mut T,
     ) -> Result<Option<Refusal>>
-        requires wants { WantsValue (T.stand tokens.old) }
+        requires wants { WantsValue (T.state tokens.old) }
         requires says { Says name.now key.now.escaped (S.bytes key.now.text) }
-        ensures ok { IfOk result (λ o. Explains T.taken T.stand (reading.member name.now)
+        ensures ok { IfOk result (λ o. ExplainsTree T.taken T.state (reading.member name.now)
             tokens.old tokens.new (refused_in o)) }
         ensures seen { OnOk result (seen self.new ≡ reading.seen (seen self.old) name.now) }
-        ensures err { GivesUpOnErr (T.stand tokens.old) (T.stand tokens.new) result };
+        ensures err { GivesUpOnErr (T.state tokens.old) (T.state tokens.new) result };
 
     /// Returns the name of the member that is missing, if one is, of an object in which no member
     /// is left.
@@ -96,24 +96,24 @@ fn lacking(alloc: Global, member: Option<&str>) -> Result<Option<Refusal>>
     }
 }
 
-// The refusal of a whole value of the kind `found` that is no container of the kind that is wanted.
-pub(crate) fn mismatch(alloc: Global, wanted: Wanted, found: JsonType) -> Refusal
-    ensures { refused_of result ≡ refused_here TypeUnmatched None (Some wanted) found }
+// The refusal of a whole value of the kind `found_type` that is no container of the kind that is wanted.
+pub(crate) fn mismatch(alloc: Global, wanted: Wanted, found_type: JsonType) -> Refusal
+    ensures { refused_of result ≡ refused_here TypeUnmatched None (Some wanted) found_type }
 {
-    Refusal::here(alloc, ErrorCode::TypeUnmatched, wanted, found)
+    Refusal::here(alloc, ErrorCode::TypeUnmatched, wanted, found_type)
 }
 
 // The refusal of a part, as seen from the container, whose rest is taken.
-pub(crate) fn leave_within<S: Lent, T: Tokens<S>>(
+pub(crate) fn leave_within<S: InputStr, T: Tokens<S>>(
     tokens: &mut T,
     refused: Refusal,
     step: Step,
 ) -> Result<Option<Refusal>>
-    requires { IsOpen (T.stand tokens.old).spot }
-    ensures leaves { OnOk result (Leaves T.taken T.stand tokens.old tokens.new) }
+    requires { IsOpen (T.state tokens.old).expected }
+    ensures leaves { OnOk result (Leaves T.taken T.state tokens.old tokens.new) }
     ensures refused { IfOk result (λ o.
         refused_in o ≡ Some (spec_within (explained_step step) (refused_of refused))) }
-    ensures err { GivesUpOnErr (T.stand tokens.old) (T.stand tokens.new) result }
+    ensures err { GivesUpOnErr (T.state tokens.old) (T.state tokens.new) result }
 {
     match tokens.leave() {
         Ok(()) => {}
@@ -126,16 +126,16 @@ pub(crate) fn leave_within<S: Lent, T: Tokens<S>>(
 }
 
 // What is left of an array whose beginning was taken.
-fn explain_elements<S: Lent, V: Explain<S>, T: Tokens<S>>(
+fn explain_elements<S: InputStr, V: Explain<S>, T: Tokens<S>>(
     alloc: Global,
     tokens: &mut T,
 ) -> Result<Option<Refusal>>
-    requires { InArray (T.stand tokens.old).spot }
-    ensures ok { (a : T) → TakesOne T.taken T.stand a tokens.old (begin_token array)
-        → IfOk result (λ o. Explains T.taken T.stand (list_refused V.refused) a tokens.new
+    requires { InArray (T.state tokens.old).expected }
+    ensures ok { (a : T) → TakesOne T.taken T.state a tokens.old (begin_token array)
+        → IfOk result (λ o. ExplainsTree T.taken T.state (list_refused V.refused) a tokens.new
         (refused_in o)) }
-    ensures err { (a : T) → TakesOne T.taken T.stand a tokens.old (begin_token array)
-        → IfErr result (λ e. GivesUp (T.stand a) (T.stand tokens.new) e) }
+    ensures err { (a : T) → TakesOne T.taken T.state a tokens.old (begin_token array)
+        → IfErr result (λ e. GivesUp (T.state a) (T.state tokens.new) e) }
 {
     let mut index: usize = 0;
     'each: loop {
@@ -144,7 +144,7 @@ fn explain_elements<S: Lent, V: Explain<S>, T: Tokens<S>>(
             Err(error) => return Err(error),
         };
         if kind == TokenKind::EndArray {
-            match pass(tokens) {
+            match skip_next(tokens) {
                 Ok(()) => return Ok(None),
                 Err(error) => return Err(error),
             }
@@ -158,27 +158,27 @@ fn explain_elements<S: Lent, V: Explain<S>, T: Tokens<S>>(
         }
         index = match index.checked_add(1) {
             Some(next) => next,
-            None => return Err(refusal(ErrorCode::NoMemory)),
+            None => return Err(error_without_place(ErrorCode::NoMemory)),
         };
     }
 }
 
 // What is left of an object whose beginning was taken.
-fn explain_rest<S: Lent, M: ExplainMembers<S>, T: Tokens<S>>(
+fn explain_rest<S: InputStr, M: ExplainMembers<S>, T: Tokens<S>>(
     alloc: Global,
     members: &mut M,
     tokens: &mut T,
 ) -> Result<Option<Refusal>>
-    requires { InObject (T.stand tokens.old).spot }
-    ensures ok { (a : T) → TakesOne T.taken T.stand a tokens.old (begin_token object)
-        → IfOk result (λ o. Explains T.taken T.stand
+    requires { InObject (T.state tokens.old).expected }
+    ensures ok { (a : T) → TakesOne T.taken T.state a tokens.old (begin_token object)
+        → IfOk result (λ o. ExplainsTree T.taken T.state
         (object_refused M.reading (M.seen members.old)) a tokens.new (refused_in o)) }
-    ensures err { (a : T) → TakesOne T.taken T.stand a tokens.old (begin_token object)
-        → IfErr result (λ e. GivesUp (T.stand a) (T.stand tokens.new) e) }
+    ensures err { (a : T) → TakesOne T.taken T.state a tokens.old (begin_token object)
+        → IfErr result (λ e. GivesUp (T.state a) (T.state tokens.new) e) }
 {
     let mut index: usize = 0;
     'each: loop {
-        let next = match next_name(tokens) {
+        let next = match read_next_name(tokens) {
             Ok(next) => next,
             Err(error) => return Err(error),
         };
@@ -199,37 +199,37 @@ fn explain_rest<S: Lent, M: ExplainMembers<S>, T: Tokens<S>>(
         }
         index = match index.checked_add(1) {
             Some(next) => next,
-            None => return Err(refusal(ErrorCode::NoMemory)),
+            None => return Err(error_without_place(ErrorCode::NoMemory)),
         };
     }
 }
 
 /// Takes one tree and returns where it is refused as an object with these members, or `None` if it
 /// is read. Fails as the source of tokens does, or with `NoMemory` if memory runs out.
-pub fn explain_members<S: Lent, M: ExplainMembers<S>, T: Tokens<S>>(
+pub fn explain_members<S: InputStr, M: ExplainMembers<S>, T: Tokens<S>>(
     alloc: Global,
     members: &mut M,
     tokens: &mut T,
 ) -> Result<Option<Refusal>>
-    requires { WantsValue (T.stand tokens.old) }
-    ensures ok { IfOk result (λ o. Explains T.taken T.stand
+    requires { WantsValue (T.state tokens.old) }
+    ensures ok { IfOk result (λ o. ExplainsTree T.taken T.state
         (object_refused M.reading (M.seen members.old)) tokens.old tokens.new (refused_in o)) }
-    ensures err { GivesUpOnErr (T.stand tokens.old) (T.stand tokens.new) result }
+    ensures err { GivesUpOnErr (T.state tokens.old) (T.state tokens.new) result }
 {
-    match open(tokens, Kind::Object) {
+    match open_or_skip(tokens, Kind::Object) {
         Ok(None) => explain_rest(alloc, members, tokens),
-        Ok(Some(found)) => Ok(Some(mismatch(alloc, Wanted::Object, found))),
+        Ok(Some(found_type)) => Ok(Some(mismatch(alloc, Wanted::Object, found_type))),
         Err(error) => Err(error),
     }
 }
 
-impl<S: Lent, V: Explain<S>> Explain<S> for Vec<V> {
+impl<S: InputStr, V: Explain<S>> Explain<S> for Vec<V> {
     ghost refused = { list_refused V.refused };
 
     fn explain<T: Tokens<S>>(alloc: Global, tokens: &mut T) -> Result<Option<Refusal>> {
-        match open(tokens, Kind::Array) {
+        match open_or_skip(tokens, Kind::Array) {
             Ok(None) => explain_elements::<S, V, T>(alloc, tokens),
-            Ok(Some(found)) => Ok(Some(mismatch(alloc, Wanted::Array, found))),
+            Ok(Some(found_type)) => Ok(Some(mismatch(alloc, Wanted::Array, found_type))),
             Err(error) => Err(error),
         }
     }

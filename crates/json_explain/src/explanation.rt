@@ -2,9 +2,9 @@
 ghost use Rattle.std.specs.Prelude.{◌≡◌, None, option_map};
 ghost use Rattle.json_io.specs.Errors.{line_of, column_of};
 
-use crate::refusal::{Refusal, write_text};
+use crate::refusal::{Refusal, write_plain_text};
 use json_doc::JsonType;
-use json_text::{Error, Place};
+use json_io::{Error, Place};
 use std::fmt;
 
 /// Why no value was read, and where.
@@ -48,18 +48,18 @@ impl Explanation {
 
     /// Returns where the value is refused, and what was wanted there. It is `None` if no value was
     /// refused: if the text has no value, or memory ran out.
-    pub fn refusal(&self) -> Option<&Refusal>
+    pub fn refused(&self) -> Option<&Refusal>
         ensures { option_map (λ r. r.now) result ≡ self.now.refusal }
     {
         self.refusal.as_ref()
     }
 
     /// Returns the kind of the value that is refused.
-    pub fn found(&self) -> Option<JsonType>
-        ensures { result ≡ option_map (λ r. r.found) self.now.refusal }
+    pub fn found_type(&self) -> Option<JsonType>
+        ensures { result ≡ option_map (λ r. r.found_type) self.now.refusal }
     {
         match &self.refusal {
-            Some(refusal) => Some(refusal.found()),
+            Some(refusal) => Some(refusal.found_type()),
             None => None,
         }
     }
@@ -94,8 +94,8 @@ impl Explanation {
 }
 
 // What was found.
-fn found_text(found: JsonType) -> &'static str {
-    match found {
+fn found_text(found_type: JsonType) -> &'static str {
+    match found_type {
         JsonType::Null => "null",
         JsonType::Boolean => "a boolean",
         JsonType::Number => "a number",
@@ -109,12 +109,12 @@ fn found_text(found: JsonType) -> &'static str {
 fn write_cause<W: fmt::Write>(f: &mut fmt::Formatter<W>, refusal: &Refusal) -> fmt::Result {
     if let Some(member) = refusal.member() {
         f.write_str("the member \"")?;
-        write_text(f, member)?;
+        write_plain_text(f, member)?;
         return f.write_str("\" is missing");
     }
-    let found = found_text(refusal.found());
+    let found_type = found_text(refusal.found_type());
     match refusal.wanted() {
-        Some(wanted) => write!(f, "{found}, where {wanted} is wanted"),
+        Some(wanted) => write!(f, "{found_type}, where {wanted} is wanted"),
         None => write!(f, "no member with this key is wanted"),
     }
 }

@@ -4,11 +4,12 @@ ghost use Rattle.json_explain.specs.declared.refusal.Wanted.TheVariants as wante
 
 use crate::explain::{Explain, explain_whole};
 use crate::refusal::{Refusal, Wanted};
-use json_data::{DeserializeFrom, Lent, Tokens};
-use json_text::Result;
+use json_data::DeserializeFrom;
+use json_io::Result;
+use json_tokens::{InputStr, Tokens};
 use std::alloc::Global;
 
-impl<S: Lent> Explain<S> for f32 {
+impl<S: InputStr> Explain<S> for f32 {
     ghost refused = { whole_refused ⟦<f32 as DeserializeFrom<S>>⟧.from_tree wanted.F32 };
 
     fn explain<T: Tokens<S>>(alloc: Global, tokens: &mut T) -> Result<Option<Refusal>> {
@@ -16,7 +17,7 @@ impl<S: Lent> Explain<S> for f32 {
     }
 }
 
-impl<S: Lent> Explain<S> for f64 {
+impl<S: InputStr> Explain<S> for f64 {
     ghost refused = { whole_refused ⟦<f64 as DeserializeFrom<S>>⟧.from_tree wanted.F64 };
 
     fn explain<T: Tokens<S>>(alloc: Global, tokens: &mut T) -> Result<Option<Refusal>> {

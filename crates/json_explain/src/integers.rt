@@ -4,11 +4,12 @@ ghost use Rattle.json_explain.specs.declared.refusal.Wanted.TheVariants as wante
 
 use crate::explain::{Explain, explain_whole};
 use crate::refusal::{Refusal, Wanted};
-use json_data::{DeserializeFrom, Lent, Tokens};
-use json_text::Result;
+use json_data::DeserializeFrom;
+use json_io::Result;
+use json_tokens::{InputStr, Tokens};
 use std::alloc::Global;
 
-impl<S: Lent> Explain<S> for u8 {
+impl<S: InputStr> Explain<S> for u8 {
     ghost refused = { whole_refused ⟦<u8 as DeserializeFrom<S>>⟧.from_tree wanted.U8 };
 
     fn explain<T: Tokens<S>>(alloc: Global, tokens: &mut T) -> Result<Option<Refusal>> {
@@ -16,7 +17,7 @@ impl<S: Lent> Explain<S> for u8 {
     }
 }
 
-impl<S: Lent> Explain<S> for u16 {
+impl<S: InputStr> Explain<S> for u16 {
     ghost refused = { whole_refused ⟦<u16 as DeserializeFrom<S>>⟧.from_tree wanted.U16 };
 
     fn explain<T: Tokens<S>>(alloc: Global, tokens: &mut T) -> Result<Option<Refusal>> {
@@ -24,7 +25,7 @@ impl<S: Lent> Explain<S> for u16 {
     }
 }
 
-impl<S: Lent> Explain<S> for u32 {
+impl<S: InputStr> Explain<S> for u32 {
     ghost refused = { whole_refused ⟦<u32 as DeserializeFrom<S>>⟧.from_tree wanted.U32 };
 
     fn explain<T: Tokens<S>>(alloc: Global, tokens: &mut T) -> Result<Option<Refusal>> {
@@ -32,7 +33,7 @@ impl<S: Lent> Explain<S> for u32 {
     }
 }
 
-impl<S: Lent> Explain<S> for u64 {
+impl<S: InputStr> Explain<S> for u64 {
     ghost refused = { whole_refused ⟦<u64 as DeserializeFrom<S>>⟧.from_tree wanted.U64 };
 
     fn explain<T: Tokens<S>>(alloc: Global, tokens: &mut T) -> Result<Option<Refusal>> {
@@ -40,7 +41,7 @@ impl<S: Lent> Explain<S> for u64 {
     }
 }
 
-impl<S: Lent> Explain<S> for usize {
+impl<S: InputStr> Explain<S> for usize {
     ghost refused = { whole_refused ⟦<usize as DeserializeFrom<S>>⟧.from_tree wanted.U64 };
 
     fn explain<T: Tokens<S>>(alloc: Global, tokens: &mut T) -> Result<Option<Refusal>> {
@@ -48,7 +49,7 @@ impl<S: Lent> Explain<S> for usize {
     }
 }
 
-impl<S: Lent> Explain<S> for u128 {
+impl<S: InputStr> Explain<S> for u128 {
     ghost refused = { whole_refused ⟦<u128 as DeserializeFrom<S>>⟧.from_tree wanted.U128 };
 
     fn explain<T: Tokens<S>>(alloc: Global, tokens: &mut T) -> Result<Option<Refusal>> {
@@ -56,7 +57,7 @@ impl<S: Lent> Explain<S> for u128 {
     }
 }
 
-impl<S: Lent> Explain<S> for i8 {
+impl<S: InputStr> Explain<S> for i8 {
     ghost refused = { whole_refused ⟦<i8 as DeserializeFrom<S>>⟧.from_tree wanted.I8 };
 
     fn explain<T: Tokens<S>>(alloc: Global, tokens: &mut T) -> Result<Option<Refusal>> {
@@ -64,7 +65,7 @@ impl<S: Lent> Explain<S> for i8 {
     }
 }
 
-impl<S: Lent> Explain<S> for i16 {
+impl<S: InputStr> Explain<S> for i16 {
     ghost refused = { whole_refused ⟦<i16 as DeserializeFrom<S>>⟧.from_tree wanted.I16 };
 
     fn explain<T: Tokens<S>>(alloc: Global, tokens: &mut T) -> Result<Option<Refusal>> {
@@ -72,7 +73,7 @@ impl<S: Lent> Explain<S> for i16 {
     }
 }
 
-impl<S: Lent> Explain<S> for i32 {
+impl<S: InputStr> Explain<S> for i32 {
     ghost refused = { whole_refused ⟦<i32 as DeserializeFrom<S>>⟧.from_tree wanted.I32 };
 
     fn explain<T: Tokens<S>>(alloc: Global, tokens: &mut T) -> Result<Option<Refusal>> {
@@ -80,7 +81,7 @@ impl<S: Lent> Explain<S> for i32 {
     }
 }
 
-impl<S: Lent> Explain<S> for i64 {
+impl<S: InputStr> Explain<S> for i64 {
     ghost refused = { whole_refused ⟦<i64 as DeserializeFrom<S>>⟧.from_tree wanted.I64 };
 
     fn explain<T: Tokens<S>>(alloc: Global, tokens: &mut T) -> Result<Option<Refusal>> {
@@ -88,7 +89,7 @@ impl<S: Lent> Explain<S> for i64 {
     }
 }
 
-impl<S: Lent> Explain<S> for isize {
+impl<S: InputStr> Explain<S> for isize {
     ghost refused = { whole_refused ⟦<isize as DeserializeFrom<S>>⟧.from_tree wanted.I64 };
 
     fn explain<T: Tokens<S>>(alloc: Global, tokens: &mut T) -> Result<Option<Refusal>> {
@@ -96,7 +97,7 @@ impl<S: Lent> Explain<S> for isize {
     }
 }
 
-impl<S: Lent> Explain<S> for i128 {
+impl<S: InputStr> Explain<S> for i128 {
     ghost refused = { whole_refused ⟦<i128 as DeserializeFrom<S>>⟧.from_tree wanted.I128 };
 
     fn explain<T: Tokens<S>>(alloc: Global, tokens: &mut T) -> Result<Option<Refusal>> {

@@ -4,11 +4,11 @@ ghost use Rattle.json_grammar.specs.Tree.{Tree};
 ghost use Rattle.json_doc.specs.Readings.{type_of as spec_type_of};
 ghost use Rattle.json_tokens.specs.Kinds.{first_kind};
 
-use json_data::TokenKind;
 use json_doc::JsonType;
+use json_tokens::TokenKind;
 
 // The kind of a value that begins with a token of this kind.
-pub(crate) fn type_of(kind: TokenKind) -> JsonType
+pub(crate) fn type_of_token(kind: TokenKind) -> JsonType
     ensures { (t : Tree) → first_kind t ≡ kind → spec_type_of t ≡ result }
 {
     match kind {

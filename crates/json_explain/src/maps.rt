@@ -5,8 +5,9 @@ ghost use Rattle.json_explain.specs.Refused.{map_reading, object_refused};
 use crate::containers::{ExplainMembers, explain_members};
 use crate::explain::{Explain, explain_key};
 use crate::refusal::Refusal;
-use json_data::{DeserializeFrom, FromKey, Lent, Piece, Tokens, is_refusal};
-use json_text::Result;
+use json_data::{DeserializeFrom, FromKey};
+use json_io::Result;
+use json_tokens::{InputStr, Piece, Tokens, is_refusal};
 use std::alloc::Global;
 use std::collections::BTreeMap;
 use std::marker::PhantomData;
@@ -17,7 +18,7 @@ struct Entries<K, V> {
     entry: PhantomData<(K, V)>,
 }
 
-impl<S: Lent, K: FromKey<S> + Drop, V: Explain<S>> ExplainMembers<S> for Entries<K, V> {
+impl<S: InputStr, K: FromKey<S> + Drop, V: Explain<S>> ExplainMembers<S> for Entries<K, V> {
     ghost reading = { map_reading K.from_text V.refused };
 
     ghost seen = { λ _. [] };
@@ -46,7 +47,7 @@ impl<S: Lent, K: FromKey<S> + Drop, V: Explain<S>> ExplainMembers<S> for Entries
     }
 }
 
-impl<S: Lent, K: FromKey<S> + Drop, V: Explain<S>> Explain<S> for BTreeMap<K, V> {
+impl<S: InputStr, K: FromKey<S> + Drop, V: Explain<S>> Explain<S> for BTreeMap<K, V> {
     ghost refused = { object_refused (map_reading K.from_text V.refused) [] };
 
     fn explain<T: Tokens<S>>(alloc: Global, tokens: &mut T) -> Result<Option<Refusal>> {

@@ -5,49 +5,49 @@ ghost use Rattle.json_grammar.specs.Tree.{begin as begin_token, end as end_token
 ghost use Rattle.json_data.specs.Reader.{GivesUp};
 ghost use Rattle.json_tokens.specs.declared.token.TokenKind.{TokenKind as TokenKindOf};
 ghost use Rattle.json_tokens.specs.declared.token.TokenKind.TheVariants as TokenKind;
-ghost use Rattle.json_tokens.specs.Spots.{InArray};
-ghost use Rattle.json_tokens.specs.Stand.{TakesOne, TakesTokens, Peeks, FailsWithTokens};
+ghost use Rattle.json_tokens.specs.ExpectedTokens.{InArray};
+ghost use Rattle.json_tokens.specs.TokensStates.{TakesOne, TakesTokens, Peeks, FailsWithTokens};
 ghost use Rattle.json_explain.specs.Refused.{pair_refused};
-ghost use Rattle.json_explain.specs.Explaining.{Explains, refused_in};
+ghost use Rattle.json_explain.specs.Explaining.{ExplainsTree, refused_in};
 
-use crate::brackets::{open, pass};
+use crate::brackets::{open_or_skip, skip_next};
 use crate::containers::{leave_within, mismatch};
 use crate::explain::Explain;
 use crate::refusal::{Refusal, Step, Wanted};
-use json_data::{Lent, TokenKind, Tokens};
 use json_doc::JsonType;
 use json_grammar::Kind;
-use json_text::Result;
+use json_io::Result;
+use json_tokens::{InputStr, TokenKind, Tokens};
 use std::alloc::Global;
 
 // Whether the array ends here. Its end is taken then, and nothing otherwise.
-fn take_end<S: Lent, T: Tokens<S>>(tokens: &mut T) -> Result<bool>
-    requires { InArray (T.stand tokens.old).spot }
+fn take_end<S: InputStr, T: Tokens<S>>(tokens: &mut T) -> Result<bool>
+    requires { InArray (T.state tokens.old).expected }
     ensures ends { IfOk result (λ b. b ≡ true
-        → TakesOne T.taken T.stand tokens.old tokens.new (end_token array)) }
+        → TakesOne T.taken T.state tokens.old tokens.new (end_token array)) }
     ensures goes_on { IfOk result (λ b. b ≡ false
-        → (k : TokenKindOf) × Peeks (T.stand tokens.old) (T.stand tokens.new) k
+        → (k : TokenKindOf) × Peeks (T.state tokens.old) (T.state tokens.new) k
         × (k ≢ TokenKind.EndArray) × TakesTokens T.taken tokens.old [] tokens.new) }
-    ensures err { FailsWithTokens (T.stand tokens.old) (T.stand tokens.new) result }
+    ensures err { FailsWithTokens (T.state tokens.old) (T.state tokens.new) result }
 {
     if tokens.peek()? == TokenKind::EndArray {
-        pass(tokens)?;
+        skip_next(tokens)?;
         return Ok(true);
     }
     Ok(false)
 }
 
 // What is left of an array of two whose beginning was taken.
-fn explain_two<S: Lent, A: Explain<S>, B: Explain<S>, T: Tokens<S>>(
+fn explain_two<S: InputStr, A: Explain<S>, B: Explain<S>, T: Tokens<S>>(
     alloc: Global,
     tokens: &mut T,
 ) -> Result<Option<Refusal>>
-    requires { InArray (T.stand tokens.old).spot }
-    ensures ok { (a : T) → TakesOne T.taken T.stand a tokens.old (begin_token array)
-        → IfOk result (λ o. Explains T.taken T.stand (pair_refused A.refused B.refused)
+    requires { InArray (T.state tokens.old).expected }
+    ensures ok { (a : T) → TakesOne T.taken T.state a tokens.old (begin_token array)
+        → IfOk result (λ o. ExplainsTree T.taken T.state (pair_refused A.refused B.refused)
         a tokens.new (refused_in o)) }
-    ensures err { (a : T) → TakesOne T.taken T.stand a tokens.old (begin_token array)
-        → IfErr result (λ e. GivesUp (T.stand a) (T.stand tokens.new) e) }
+    ensures err { (a : T) → TakesOne T.taken T.state a tokens.old (begin_token array)
+        → IfErr result (λ e. GivesUp (T.state a) (T.state tokens.new) e) }
 {
     match take_end(tokens) {
         Ok(false) => {}
@@ -80,13 +80,13 @@ fn explain_two<S: Lent, A: Explain<S>, B: Explain<S>, T: Tokens<S>>(
     }
 }
 
-impl<S: Lent, A: Explain<S>, B: Explain<S>> Explain<S> for (A, B) {
+impl<S: InputStr, A: Explain<S>, B: Explain<S>> Explain<S> for (A, B) {
     ghost refused = { pair_refused A.refused B.refused };
 
     fn explain<T: Tokens<S>>(alloc: Global, tokens: &mut T) -> Result<Option<Refusal>> {
-        match open(tokens, Kind::Array) {
+        match open_or_skip(tokens, Kind::Array) {
             Ok(None) => explain_two::<S, A, B, T>(alloc, tokens),
-            Ok(Some(found)) => Ok(Some(mismatch(alloc, Wanted::Pair, found))),
+            Ok(Some(found_type)) => Ok(Some(mismatch(alloc, Wanted::Pair, found_type))),
             Err(error) => Err(error),
         }
     }

@@ -5,7 +5,7 @@ ghost use Rattle.json_grammar.specs.Tree.{Tree, Token as Tok, depth as depth_of,
 ghost use Rattle.json_text.specs.Events.{Means, event_bytes};
 ghost use Rattle.json_text.specs.Parsing.{SameInput};
 ghost use Rattle.json_explain.specs.Explaining.{explained_step};
-ghost use Rattle.json_explain.specs.Paths.{BeginsAt, LeadsTo, StepsTo, OnTheWay, TakesNext, levels_behind};
+ghost use Rattle.json_explain.specs.Paths.{BeginsAt, PathLeadsTo, StepsTo, OnTheWay, TakesNext, levels_after_token};
 
 use crate::refusal::Step;
 use json_text::{Event, Parser};
@@ -33,7 +33,7 @@ fn take<'a>(parser: &mut Parser<'a>) -> Option<Event<'a>>
 fn levels_after(event: Event<'_>, levels: usize, most: usize) -> usize
     requires { levels < most }
     ensures most { result ≤ most }
-    ensures levels { (x : Tok) → Means event.entry x → result ≡ levels_behind x levels }
+    ensures levels { (x : Tok) → Means event.entry x → result ≡ levels_after_token x levels }
 {
     match event {
         Event::BeginArray | Event::BeginObject => levels + 1,
@@ -125,7 +125,7 @@ fn enter(parser: &mut Parser<'_>, step: &Step) -> bool
 }
 
 // The offset at which an event begins whose token ends there.
-fn start_of(event: Event<'_>, end: usize) -> Option<usize>
+fn value_start(event: Event<'_>, end: usize) -> Option<usize>
     ensures { (i : ℕ) → i + length (event_bytes event.entry) ≡ end → result ≡ Some i }
 {
     match event {
@@ -140,10 +140,10 @@ fn start_of(event: Event<'_>, end: usize) -> Option<usize>
 
 /// Returns the offset in bytes of the value to which a path leads in a text of at most `depth`
 /// levels.
-pub(crate) fn offset_of(text: &str, depth: u32, steps: &[Step]) -> Option<usize>
+pub(crate) fn offset_at_path(text: &str, depth: u32, steps: &[Step]) -> Option<usize>
     requires { depth ≤ 1024 }
     ensures { (t v : Tree) (xs : List Tok) → is_text false t text.now → depth_of t ≤ depth
-        → LeadsTo t (map explained_step steps.now) v xs
+        → PathLeadsTo t (map explained_step steps.now) v xs
         → (i : ℕ) × (result ≡ Some i) × BeginsAt depth text.now xs v i }
 {
     let mut parser = Parser::new(text).depth(depth);
@@ -155,7 +155,7 @@ pub(crate) fn offset_of(text: &str, depth: u32, steps: &[Step]) -> Option<usize>
         index += 1;
     }
     match take(&mut parser) {
-        Some(event) => start_of(event, parser.index()),
+        Some(event) => value_start(event, parser.index()),
         None => None,
     }
 }

@@ -5,7 +5,7 @@ ghost use Rattle.json_explain.specs.Refused.{refused_here, lacks_member, refused
 ghost use Rattle.json_explain.specs.Explaining.{explained_step, refused_of};
 
 use json_doc::JsonType;
-use json_text::{ErrorCode, Result};
+use json_io::{ErrorCode, Result};
 use std::alloc::Global;
 use std::fmt;
 
@@ -125,7 +125,7 @@ impl fmt::Display for Wanted {
 /// let refusal = error.refusal().ok_or("no refusal")?;
 /// assert_eq!(rt; format!(in alloc; "{refusal}")?.as_str(), "/1");
 /// assert_eq!(rt; refusal.wanted(), Some(Wanted::U8));
-/// assert_eq!(rt; refusal.found(), JsonType::Number);
+/// assert_eq!(rt; refusal.found_type(), JsonType::Number);
 /// ```
 #[derive(Drop)]
 pub struct Refusal {
@@ -134,34 +134,34 @@ pub struct Refusal {
     code: ErrorCode,
     member: Option<String>,
     wanted: Option<Wanted>,
-    found: JsonType,
+    found_type: JsonType,
 }
 
 impl Refusal {
-    /// Returns the refusal of a whole value of the kind `found`, where `wanted` says what is read
+    /// Returns the refusal of a whole value of the kind `found_type`, where `wanted` says what is read
     /// there.
-    pub fn here(alloc: Global, code: ErrorCode, wanted: Wanted, found: JsonType) -> Refusal
-        ensures { refused_of result ≡ refused_here code None (Some wanted) found }
+    pub fn here(alloc: Global, code: ErrorCode, wanted: Wanted, found_type: JsonType) -> Refusal
+        ensures { refused_of result ≡ refused_here code None (Some wanted) found_type }
     {
         Refusal {
             steps: Vec::new(alloc),
             code,
             member: None,
             wanted: Some(wanted),
-            found,
+            found_type,
         }
     }
 
-    /// Returns the refusal of a member's value, of the kind `found`, because of its key.
-    pub fn key(alloc: Global, code: ErrorCode, found: JsonType) -> Refusal
-        ensures { refused_of result ≡ refused_here code None None found }
+    /// Returns the refusal of a member's value, of the kind `found_type`, because of its key.
+    pub fn key(alloc: Global, code: ErrorCode, found_type: JsonType) -> Refusal
+        ensures { refused_of result ≡ refused_here code None None found_type }
     {
         Refusal {
             steps: Vec::new(alloc),
             code,
             member: None,
             wanted: None,
-            found,
+            found_type,
         }
     }
 
@@ -177,7 +177,7 @@ impl Refusal {
             code: ErrorCode::TypeUnmatched,
             member: Some(member),
             wanted: None,
-            found: JsonType::Object,
+            found_type: JsonType::Object,
         })
     }
 
@@ -193,7 +193,7 @@ impl Refusal {
             code,
             member,
             wanted,
-            found,
+            found_type,
         } = self;
         steps.insert(0, step)?;
         Ok(Refusal {
@@ -201,7 +201,7 @@ impl Refusal {
             code,
             member,
             wanted,
-            found,
+            found_type,
         })
     }
 
@@ -238,10 +238,10 @@ impl Refusal {
     }
 
     /// Returns the kind of the value that is refused.
-    pub fn found(&self) -> JsonType
-        ensures { result ≡ (refused_of self.now).found }
+    pub fn found_type(&self) -> JsonType
+        ensures { result ≡ (refused_of self.now).found_type }
     {
-        self.found
+        self.found_type
     }
 }
 
@@ -262,7 +262,10 @@ fn write_character<W: fmt::Write>(f: &mut fmt::Formatter<W>, character: char) ->
 }
 
 // Writes a text as it is within a JSON string.
-pub(crate) fn write_text<W: fmt::Write>(f: &mut fmt::Formatter<W>, text: &str) -> fmt::Result {
+pub(crate) fn write_plain_text<W: fmt::Write>(
+    f: &mut fmt::Formatter<W>,
+    text: &str,
+) -> fmt::Result {
     for character in text.chars() {
         write_character(f, character)?;
     }

@@ -4,14 +4,15 @@ ghost use Rattle.json_explain.specs.declared.refusal.Wanted.TheVariants as wante
 
 use crate::explain::{Explain, explain_whole};
 use crate::refusal::{Refusal, Wanted};
-use json_data::{DeserializeFrom, IgnoredAny, Lent, Tokens};
+use json_data::{DeserializeFrom, IgnoredAny};
+use json_io::Result;
 use json_number::{Number, RawNumber};
-use json_text::Result;
+use json_tokens::{InputStr, Tokens};
 use json_value::{Array, Edit, Object, Path, Value};
 use std::alloc::Global;
 use std::borrow::CowStr;
 
-impl<S: Lent> Explain<S> for bool {
+impl<S: InputStr> Explain<S> for bool {
     ghost refused = { whole_refused ⟦<bool as DeserializeFrom<S>>⟧.from_tree wanted.Boolean };
 
     fn explain<T: Tokens<S>>(alloc: Global, tokens: &mut T) -> Result<Option<Refusal>> {
@@ -19,7 +20,7 @@ impl<S: Lent> Explain<S> for bool {
     }
 }
 
-impl<S: Lent> Explain<S> for () {
+impl<S: InputStr> Explain<S> for () {
     ghost refused = { whole_refused ⟦<() as DeserializeFrom<S>>⟧.from_tree wanted.Null };
 
     fn explain<T: Tokens<S>>(alloc: Global, tokens: &mut T) -> Result<Option<Refusal>> {
@@ -27,7 +28,7 @@ impl<S: Lent> Explain<S> for () {
     }
 }
 
-impl<S: Lent> Explain<S> for char {
+impl<S: InputStr> Explain<S> for char {
     ghost refused = { whole_refused ⟦<char as DeserializeFrom<S>>⟧.from_tree wanted.Character };
 
     fn explain<T: Tokens<S>>(alloc: Global, tokens: &mut T) -> Result<Option<Refusal>> {
@@ -35,7 +36,7 @@ impl<S: Lent> Explain<S> for char {
     }
 }
 
-impl<S: Lent> Explain<S> for String {
+impl<S: InputStr> Explain<S> for String {
     ghost refused = { whole_refused ⟦<String as DeserializeFrom<S>>⟧.from_tree wanted.String };
 
     fn explain<T: Tokens<S>>(alloc: Global, tokens: &mut T) -> Result<Option<Refusal>> {
@@ -43,7 +44,7 @@ impl<S: Lent> Explain<S> for String {
     }
 }
 
-impl<S: Lent> Explain<S> for IgnoredAny {
+impl<S: InputStr> Explain<S> for IgnoredAny {
     ghost refused = { whole_refused ⟦<IgnoredAny as DeserializeFrom<S>>⟧.from_tree wanted.Other };
 
     fn explain<T: Tokens<S>>(alloc: Global, tokens: &mut T) -> Result<Option<Refusal>> {
@@ -51,7 +52,7 @@ impl<S: Lent> Explain<S> for IgnoredAny {
     }
 }
 
-impl<S: Lent> Explain<S> for Number {
+impl<S: InputStr> Explain<S> for Number {
     ghost refused = { whole_refused ⟦<Number as DeserializeFrom<S>>⟧.from_tree wanted.Number };
 
     fn explain<T: Tokens<S>>(alloc: Global, tokens: &mut T) -> Result<Option<Refusal>> {
@@ -59,7 +60,7 @@ impl<S: Lent> Explain<S> for Number {
     }
 }
 
-impl<S: Lent> Explain<S> for RawNumber {
+impl<S: InputStr> Explain<S> for RawNumber {
     ghost refused = { whole_refused ⟦<RawNumber as DeserializeFrom<S>>⟧.from_tree wanted.Literal };
 
     fn explain<T: Tokens<S>>(alloc: Global, tokens: &mut T) -> Result<Option<Refusal>> {
@@ -67,7 +68,7 @@ impl<S: Lent> Explain<S> for RawNumber {
     }
 }
 
-impl<S: Lent> Explain<S> for Value {
+impl<S: InputStr> Explain<S> for Value {
     ghost refused = { whole_refused ⟦<Value as DeserializeFrom<S>>⟧.from_tree wanted.Other };
 
     fn explain<T: Tokens<S>>(alloc: Global, tokens: &mut T) -> Result<Option<Refusal>> {
@@ -75,7 +76,7 @@ impl<S: Lent> Explain<S> for Value {
     }
 }
 
-impl<S: Lent> Explain<S> for Array {
+impl<S: InputStr> Explain<S> for Array {
     ghost refused = { whole_refused ⟦<Array as DeserializeFrom<S>>⟧.from_tree wanted.Array };
 
     fn explain<T: Tokens<S>>(alloc: Global, tokens: &mut T) -> Result<Option<Refusal>> {
@@ -83,7 +84,7 @@ impl<S: Lent> Explain<S> for Array {
     }
 }
 
-impl<S: Lent> Explain<S> for Object {
+impl<S: InputStr> Explain<S> for Object {
     ghost refused = { whole_refused ⟦<Object as DeserializeFrom<S>>⟧.from_tree wanted.Object };
 
     fn explain<T: Tokens<S>>(alloc: Global, tokens: &mut T) -> Result<Option<Refusal>> {
@@ -91,7 +92,7 @@ impl<S: Lent> Explain<S> for Object {
     }
 }
 
-impl<S: Lent> Explain<S> for Path {
+impl<S: InputStr> Explain<S> for Path {
     ghost refused = { whole_refused ⟦<Path as DeserializeFrom<S>>⟧.from_tree wanted.Path };
 
     fn explain<T: Tokens<S>>(alloc: Global, tokens: &mut T) -> Result<Option<Refusal>> {
@@ -99,7 +100,7 @@ impl<S: Lent> Explain<S> for Path {
     }
 }
 
-impl<S: Lent> Explain<S> for Edit {
+impl<S: InputStr> Explain<S> for Edit {
     ghost refused = { whole_refused ⟦<Edit as DeserializeFrom<S>>⟧.from_tree wanted.Edit };
 
     fn explain<T: Tokens<S>>(alloc: Global, tokens: &mut T) -> Result<Option<Refusal>> {

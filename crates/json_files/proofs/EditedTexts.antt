@@ -17,7 +17,7 @@ use Rattle.json_layout.specs.Styles.{indent_of, is_sorted}
 use Rattle.json_layout.specs.declared.style.Style.{Style}
 use Rattle.json_text.specs.Ruled.{rules_of}
 use Rattle.json_files.specs.declared.change_error.ChangeError.{ChangeError}
-use Rattle.json_files.specs.declared.document.Document.{Document}
+use Rattle.json_files.specs.declared.document.NamedDocument.{NamedDocument}
 use Rattle.json_files.specs.declared.document_error.DocumentError.TheVariants.{Input, Change}
 use Rattle.json_files.specs.declared.job.InputForm.{InputForm}
 use Rattle.json_files.specs.declared.job.InputForm.TheVariants.{One, Lines, Stream}
@@ -64,7 +64,7 @@ line_of_bytes task name (Some b) One (Printed line ∷ o ∷ os) h one zero = ab
 line_of_bytes task name (Some b) One (Printed line ∷ []) ((tree, input, (edited, edited_is, is)), rest) one zero =
     record { tree = tree; input = input; edited = edited; edited_is = edited_is; output = append-nil line ∙ is }
 
-line_of_document : (task : Task) (d : Document) (os : List PartOutcome) → DocumentsHave true task (d ∷ []) os → task.form ≡ One → greatest_status os ≡ 0 → PrintsLine task (bytes_or_none d) os
+line_of_document : (task : Task) (d : NamedDocument) (os : List PartOutcome) → DocumentsHave true task (d ∷ []) os → task.form ≡ One → greatest_status os ≡ 0 → PrintsLine task (bytes_or_none d) os
 line_of_document task d os (first, later, have, none, is) one zero =
     let same : first ≡ os = sym (append-nil first) ∙ ap (λ ps. first ++ ps) (sym none) ∙ sym is in
     line_of_bytes task (string_bytes d.name) (document_bytes d) task.form os (subst (BytesHave true task (string_bytes d.name) (document_bytes d) task.form) same have) one zero
@@ -85,7 +85,7 @@ end_kept b s = by (ends_line b)
 
 -- ---- the text
 
-pub kept : {C : Type 0} (changed : C → Tree → Result Tree ChangeError) (job : Job C) (sorts : Bool) (style : Style) (d : Document) (errs errs' : SinkState) (text : List ℕ) (status : ℕ) → IsFoundStyle (bytes_or_none d) sorts style
+pub kept : {C : Type 0} (changed : C → Tree → Result Tree ChangeError) (job : Job C) (sorts : Bool) (style : Style) (d : NamedDocument) (errs errs' : SinkState) (text : List ℕ) (status : ℕ) → IsFoundStyle (bytes_or_none d) sorts style
     → EditsDocument (task_of changed (in_style job style)) d errs errs' text status → status ≡ 0 → job.input ≡ One → KeepsLayout (rules_of job.rules) (changed job.change) sorts (bytes_or_none d) text
 kept changed job sorts style d errs errs' text status found h zero one =
     let b = bytes_or_none d in
@@ -105,7 +105,7 @@ some_same : (x y : List ℕ) → Some x ≡ Some y → x ≡ y
 some_same x y e = cc
 
 -- what a run over one document writes to a new sink in memory
-pub edits_from : (task : Task) (d : Document) (ds : List Document) (s s' e e' : SinkState) (output text b : List ℕ) (status : ℕ) → ds ≡ d ∷ [] → s.gained ≡ Some [] → s'.gained ≡ Some output → b ≡ bytes_or_none d → text ≡ with_end_of b output
+pub edits_from : (task : Task) (d : NamedDocument) (ds : List NamedDocument) (s s' e e' : SinkState) (output text b : List ℕ) (status : ℕ) → ds ≡ d ∷ [] → s.gained ≡ Some [] → s'.gained ≡ Some output → b ≡ bytes_or_none d → text ≡ with_end_of b output
     → PrintsAll task ds s s' e e' status → EditsDocument task d e e' text status
 edits_from task d ds s s' e e' output text b status one new gained is end h =
     let same : output ≡ output_of h.outcomes = some_same output (output_of h.outcomes) (sym gained ∙ h.output ∙ ap (λ (o : Option (List ℕ)). option_map (λ xs. xs ++ output_of h.outcomes) o) new) in
@@ -120,5 +120,5 @@ edits_from task d ds s s' e e' output text b status one new gained is end h =
 pub found_for : (b b' : List ℕ) (s s' : Bool) (style : Style) → b ≡ b' → s ≡ s' → IsFoundStyle b s style → IsFoundStyle b' s' style
 found_for b b' s s' style e f h = record { indent = h.indent ∙ ap found_indent e; sorted = h.sorted ∙ f }
 
-pub fails_as : (task : Task) (d : Document) (ds : List Document) (s s' e e' : SinkState) (status : ℕ) → ds ≡ d ∷ [] → PrintsSome task ds s s' e e' status → FailsToEdit task d e e' status
+pub fails_as : (task : Task) (d : NamedDocument) (ds : List NamedDocument) (s s' e e' : SinkState) (status : ℕ) → ds ≡ d ∷ [] → PrintsSome task ds s s' e e' status → FailsToEdit task d e e' status
 fails_as task d ds s s' e e' status one h = (s, s', subst (λ xs. PrintsSome task xs s s' e e' status) one h)

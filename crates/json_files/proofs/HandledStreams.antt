@@ -11,9 +11,9 @@ use Rattle.json_io.specs.declared.error.Error.{Error}
 use Rattle.json_command.specs.Input.{max_bytes}
 use Rattle.json_files.specs.declared.change_error.ChangeError.{ChangeError}
 use Rattle.json_files.specs.declared.document_error.DocumentError.TheVariants.{Input, Change}
-use Rattle.json_files.specs.declared.run.Tally.{Tally}
+use Rattle.json_files.specs.declared.run.DocumentTally.{DocumentTally}
 use Rattle.json_files.specs.Outcomes.{Task, PartOutcome, Printed, Refused, PartsHave}
-use Rattle.json_files.specs.Parts.{Part, whole_part, value_part}
+use Rattle.json_files.specs.Parts.{DocumentPart, whole_part, value_part}
 use Rattle.json_files.specs.Running.{PrintsTree, PrintingStops, ReportsError, ReportingFails, Handles, StopsRunning}
 use Rattle.json_files.specs.Streams.{ReadsAt, StreamHas, ends, stops, fails, more, ValuePlace, ValueHas, ValuesHave, OutcomeIsNoText, TextFault}
 use Rattle.json_files.specs.Writing.{WritingFails}
@@ -25,32 +25,32 @@ use Rattle.json_files.proofs.TextWriting.{muted_nil}
 
 module _ (task : Task) (p : ValuePlace) where
   -- its line was written
-  pub value_printed : (tree : Tree) (j : ℕ) (t : Tally) (s u e : SinkState) → ReadsAt p.text p.offset tree j → PrintsTree task tree s u None → Handles (ValueHas task p (Some j)) t t s u e e
+  pub value_printed : (tree : Tree) (j : ℕ) (t : DocumentTally) (s u e : SinkState) → ReadsAt p.text p.offset tree j → PrintsTree task tree s u None → Handles (ValueHas task p (Some j)) t t s u e e
   value_printed tree j t s u e reads (changed, applied, writes) =
       handles_line (ValueHas task p (Some j)) t s u e (task.line changed) (tree, Printed (task.line changed), reads, (changed, applied, refl), refl) writes
 
   -- the change did not apply
-  pub value_refused : (tree : Tree) (j : ℕ) (error : ChangeError) (part : Part) (t v : Tally) (s u e f : SinkState) → part ≡ value_part p.name p.text p.number → ReadsAt p.text p.offset tree j → PrintsTree task tree s u (Some error) → ReportsError part (Change error) t v e f
+  pub value_refused : (tree : Tree) (j : ℕ) (error : ChangeError) (part : DocumentPart) (t v : DocumentTally) (s u e f : SinkState) → part ≡ value_part p.name p.text p.number → ReadsAt p.text p.offset tree j → PrintsTree task tree s u (Some error) → ReportsError part (Change error) t v e f
       → Handles (ValueHas task p (Some j)) t v s u e f
   value_refused tree j error part t v s u e f is reads (fails_so, same) h =
-      let k : ReportsError (value_part p.name p.text p.number) (Change error) t v e f = subst (λ (x : Part). ReportsError x (Change error) t v e f) is h in
+      let k : ReportsError (value_part p.name p.text p.number) (Change error) t v e f = subst (λ (x : DocumentPart). ReportsError x (Change error) t v e f) is h in
       handles_error (ValueHas task p (Some j)) (value_part p.name p.text p.number) (Change error) t v s u e f k (tree, Refused (Change error) k.report, reads, (fails_so, k.is_report), refl) same
 
   -- no value can be read
-  pub fault_reported : (error : Error) (part : Part) (t v : Tally) (s e f : SinkState) → part ≡ whole_part p.name p.text → ValueFaultFrom false 254 p.offset p.text error.code error.place → ReportsError part (Input error) t v e f → Handles (ValueHas task p None) t v s s e f
+  pub fault_reported : (error : Error) (part : DocumentPart) (t v : DocumentTally) (s e f : SinkState) → part ≡ whole_part p.name p.text → ValueFaultFrom false 254 p.offset p.text error.code error.place → ReportsError part (Input error) t v e f → Handles (ValueHas task p None) t v s s e f
   fault_reported error part t v s e f is fault h =
-      let k : ReportsError (whole_part p.name p.text) (Input error) t v e f = subst (λ (x : Part). ReportsError x (Input error) t v e f) is h in
+      let k : ReportsError (whole_part p.name p.text) (Input error) t v e f = subst (λ (x : DocumentPart). ReportsError x (Input error) t v e f) is h in
       handles_error (ValueHas task p None) (whole_part p.name p.text) (Input error) t v s s e f k (error, k.report, fault, k.is_report, refl) refl
 
   abbrev First : List PartOutcome → Type 0
   First os = StreamHas task p.name p.text false p.offset p.number os
 
   -- memory ran out, and nothing was written
-  pub value_none : (t v : Tally) (s u e f : SinkState) (error : Error) → error ≡ no_memory → u ≡ s → v ≡ t → f ≡ e → StopsRunning (StreamHas task p.name p.text false p.offset p.number) t v s u e f error
+  pub value_none : (t v : DocumentTally) (s u e f : SinkState) (error : Error) → error ≡ no_memory → u ≡ s → v ≡ t → f ≡ e → StopsRunning (StreamHas task p.name p.text false p.offset p.number) t v s u e f error
   value_none t v s u e f error only same kept silent = stops_none First t v s u e f error (stops refl) only same kept silent
 
   -- its line was not written
-  pub value_stops : (tree : Tree) (j : ℕ) (t : Tally) (s u e : SinkState) (error : Error) → ReadsAt p.text p.offset tree j → PrintingStops task tree s u error → StopsRunning (StreamHas task p.name p.text false p.offset p.number) t t s u e e error
+  pub value_stops : (tree : Tree) (j : ℕ) (t : DocumentTally) (s u e : SinkState) (error : Error) → ReadsAt p.text p.offset tree j → PrintingStops task tree s u error → StopsRunning (StreamHas task p.name p.text false p.offset p.number) t t s u e e error
   value_stops tree j t s u e error reads (inl (only, same)) = value_none t t s u e e error only same refl refl
   value_stops tree j t s u e error reads (inr (changed, applied, writes)) =
       record {
@@ -85,17 +85,17 @@ module _ (task : Task) (name b : List ℕ) where
 
 -- ---- the bytes of a document
 
-module _ (task : Task) (name b : List ℕ) (t v : Tally) (s u e f : SinkState) where
+module _ (task : Task) (name b : List ℕ) (t v : DocumentTally) (s u e f : SinkState) where
   pub handles_values : (x : List ℕ) → x ≡ b → length b ≤ max_bytes → IsUtf8 b → Handles (StreamHas task name x true 0 0) t v s u e f → Handles (ValuesHave true task name b) t v s u e f
   handles_values x is few utf8 h = Handles-as (StreamHas task name x true 0 0) (ValuesHave true task name b) t v s u e f h (λ os k. inl (few, utf8, subst (λ y. StreamHas task name y true 0 0 os) is k))
 
   pub values_stops : (x : List ℕ) → x ≡ b → length b ≤ max_bytes → IsUtf8 b → (error : Error) → StopsRunning (StreamHas task name x false 0 0) t v s u e f error → StopsRunning (ValuesHave false task name b) t v s u e f error
   values_stops x is few utf8 error h = StopsRunning-as (StreamHas task name x false 0 0) (ValuesHave false task name b) t v s u e f error h (λ os k. inl (few, utf8, subst (λ y. StreamHas task name y false 0 0 os) is k))
 
-module _ (task : Task) (name b : List ℕ) (t v : Tally) (s e f : SinkState) where
-  pub handles_no_text : (error : Error) (part : Part) → part ≡ whole_part name b → TextFault b error.code error.place → ReportsError part (Input error) t v e f → Handles (ValuesHave true task name b) t v s s e f
+module _ (task : Task) (name b : List ℕ) (t v : DocumentTally) (s e f : SinkState) where
+  pub handles_no_text : (error : Error) (part : DocumentPart) → part ≡ whole_part name b → TextFault b error.code error.place → ReportsError part (Input error) t v e f → Handles (ValuesHave true task name b) t v s s e f
   handles_no_text error part is fault h =
-      let k : ReportsError (whole_part name b) (Input error) t v e f = subst (λ (x : Part). ReportsError x (Input error) t v e f) is h in
+      let k : ReportsError (whole_part name b) (Input error) t v e f = subst (λ (x : DocumentPart). ReportsError x (Input error) t v e f) is h in
       handles_error (ValuesHave true task name b) (whole_part name b) (Input error) t v s s e f k (inr ((fault, k.is_report), tt)) refl
 
   pub no_text_stops : (error : Error) → ReportingFails t v e f error → StopsRunning (ValuesHave false task name b) t v s s e f error

@@ -13,13 +13,13 @@ use Rattle.json_io.specs.declared.error.Place.TheVariants.{None as nowhere, Read
 use Rattle.json_command.specs.Input.{InputFault}
 use Rattle.json_command.specs.Statuses.{status_of}
 use Rattle.json_command.proofs.Inputs.{no_want, no_io, no_words}
-use Rattle.json_files.specs.declared.document.Document.{Document}
+use Rattle.json_files.specs.declared.document.NamedDocument.{NamedDocument}
 use Rattle.json_files.specs.declared.document_error.DocumentError.TheVariants.{Input, Change}
 use Rattle.json_files.specs.declared.job.InputForm.{InputForm}
 use Rattle.json_files.specs.declared.job.InputForm.TheVariants.{One, Lines, Stream}
 use Rattle.json_files.specs.Documents.{BytesHave, DocumentsHave, document_bytes}
 use Rattle.json_files.specs.Outcomes.{Task, PartOutcome, Printed, Refused, HasPartOutcome, LineOutcome, IsUnread, TreeOutcome, PartsHave, outcome_status, greatest_status}
-use Rattle.json_files.specs.Parts.{Part, whole_part, value_part, line_parts, lines_of}
+use Rattle.json_files.specs.Parts.{DocumentPart, whole_part, value_part, line_parts, lines_of}
 use Rattle.json_files.specs.Streams.{StreamHas, ends, stops, fails, more, OutcomeIsNoText, TextFault}
 use Rattle.json_files.specs.Writing.{WritingFails}
 use Rattle.json_text.specs.Faults.{ValueFaultFrom}
@@ -35,16 +35,16 @@ fault_small rules b code place h = lit< tt
 
 -- ---- of one outcome
 
-outcome_small : (task : Task) (part : Part) (o : PartOutcome) → HasPartOutcome task part o → outcome_status o < 5
+outcome_small : (task : Task) (part : DocumentPart) (o : PartOutcome) → HasPartOutcome task part o → outcome_status o < 5
 outcome_small task part (Printed line) h = lit< tt
 outcome_small task part (Refused (Change e) report) h = lit< tt
 outcome_small task part (Refused (Input e) report) h = fault_small task.rules part.bytes e.code e.place h.0
 
-line_small : (task : Task) (part : Part) (o : PartOutcome) → LineOutcome task part o → outcome_status o < 5
+line_small : (task : Task) (part : DocumentPart) (o : PartOutcome) → LineOutcome task part o → outcome_status o < 5
 line_small task part o (inl blank) = subst (λ x. outcome_status x < 5) (sym blank.1) (lit< tt)
 line_small task part o (inr full) = outcome_small task part o full.1
 
-unread_small : (part : Part) (o : PartOutcome) → IsUnread part o → outcome_status o < 5
+unread_small : (part : DocumentPart) (o : PartOutcome) → IsUnread part o → outcome_status o < 5
 unread_small part (Refused (Input e) report) h = subst (λ (x : Error). status_of x.code x.place < 5) (sym h.0) (lit< tt)
 unread_small part (Refused (Change e) report) h = absurd h
 unread_small part (Printed line) h = absurd h
@@ -54,7 +54,7 @@ unread_small part (Printed line) h = absurd h
 max_small : (m n : ℕ) → m < 5 → n < 5 → max m n < 5
 max_small m n l k = grind arith
 
-parts_small : (whole : Bool) (Has : Part → PartOutcome → Type 0) (parts : List Part) (os : List PartOutcome) → ((part : Part) (o : PartOutcome) → Has part o → outcome_status o < 5) → PartsHave whole Has parts os → greatest_status os < 5
+parts_small : (whole : Bool) (Has : DocumentPart → PartOutcome → Type 0) (parts : List DocumentPart) (os : List PartOutcome) → ((part : DocumentPart) (o : PartOutcome) → Has part o → outcome_status o < 5) → PartsHave whole Has parts os → greatest_status os < 5
 parts_small whole Has [] [] each h = lit< tt
 parts_small whole Has (p ∷ ps) [] each h = lit< tt
 parts_small whole Has [] (o ∷ os) each h = absurd h
@@ -68,7 +68,7 @@ value_fault_small i b NotFound place h = absurd h.2
 value_fault_small i b TypeUnmatched place h = absurd h.2
 value_fault_small i b code place h = lit< tt
 
-tree_small : (task : Task) (part : Part) (tree : Tree) (o : PartOutcome) → TreeOutcome task part tree o → outcome_status o < 5
+tree_small : (task : Task) (part : DocumentPart) (tree : Tree) (o : PartOutcome) → TreeOutcome task part tree o → outcome_status o < 5
 tree_small task part tree (Printed line) h = lit< tt
 tree_small task part tree (Refused (Change e) report) h = lit< tt
 tree_small task part tree (Refused (Input e) report) h = absurd h
@@ -88,7 +88,7 @@ text_fault_small b NotFound place h = absurd h
 text_fault_small b TypeUnmatched place h = absurd h
 text_fault_small b code place h = lit< tt
 
-no_text_small : (part : Part) (o : PartOutcome) → OutcomeIsNoText part o → outcome_status o < 5
+no_text_small : (part : DocumentPart) (o : PartOutcome) → OutcomeIsNoText part o → outcome_status o < 5
 no_text_small part (Refused (Input e) report) h = text_fault_small part.bytes e.code e.place h.0
 no_text_small part (Refused (Change e) report) h = absurd h
 no_text_small part (Printed line) h = absurd h
@@ -100,7 +100,7 @@ bytes_small whole task name (Some b) Lines os h = parts_small whole (LineOutcome
 bytes_small whole task name (Some b) Stream os (inl h) = stream_small task name b whole 0 0 os h.2
 bytes_small whole task name (Some b) Stream os (inr h) = parts_small whole OutcomeIsNoText (whole_part name b ∷ []) os no_text_small h
 
-pub greatest_small : (task : Task) (ds : List Document) (os : List PartOutcome) → DocumentsHave true task ds os → greatest_status os < 5
+pub greatest_small : (task : Task) (ds : List NamedDocument) (os : List PartOutcome) → DocumentsHave true task ds os → greatest_status os < 5
 greatest_small task [] os h = subst (λ xs. greatest_status xs < 5) (sym h) (lit< tt)
 greatest_small task (d ∷ ds) os h =
     subst (λ n. n < 5) (sym (ap greatest_status h.4 ∙ greatest_status-append h.0 h.1))
@@ -113,5 +113,5 @@ stops_high old new text Io Writing h = inl refl
 stops_high old new text code place h = absurd h
 
 -- a write that failed has status 5
-pub told_status : (e : Error) → ◌≡◌ {A = Result (Unit {0}) Error} (Err e) (Err writing_failed) → status_of e.code e.place ≡ 5
-told_status e h = let same : e ≡ writing_failed = cc in rw same refl
+pub reported_status : (e : Error) → ◌≡◌ {A = Result (Unit {0}) Error} (Err e) (Err writing_failed) → status_of e.code e.place ≡ 5
+reported_status e h = let same : e ≡ writing_failed = cc in rw same refl

@@ -20,7 +20,7 @@ use Rattle.json_files.specs.Writing.{WritingFails, WritesOutput}
 -- ---- one text
 
 pub WritesOutput-nil : (s : SinkState) → WritesOutput s s [] (Ok tt)
-WritesOutput-nil s = record { ok = Appends-nil s.gained; flushed = λ h. h; err = tt; told = λ l. absurd (omega (arith, l)) }
+WritesOutput-nil s = record { ok = Appends-nil s.gained; flushed = λ h. h; err = tt; reported = λ l. absurd (omega (arith, l)) }
 
 front_none : (a : Option (List ℕ)) (text : List ℕ) → AppendsFront a a text
 front_none a text = record { front = []; back = text; whole = refl; gains = Appends-nil a }
@@ -33,8 +33,8 @@ fails_from old new text code place h = absurd h
 
 -- what is printed and flushed is written
 pub WritesOutput-from : (old new : SinkState) (text : List ℕ) (r : Result (Unit {0}) Error) → Prints old new text r → WritesOutput old new text r
-WritesOutput-from old new text (Ok u) h = record { ok = h.ok; flushed = λ _. h.flushed; err = tt; told = h.told }
-WritesOutput-from old new text (Err e) h = record { ok = tt; flushed = tt; err = fails_from old new text e.code e.place h.err; told = h.told }
+WritesOutput-from old new text (Ok u) h = record { ok = h.ok; flushed = λ _. h.flushed; err = tt; reported = h.reported }
+WritesOutput-from old new text (Err e) h = record { ok = tt; flushed = tt; err = fails_from old new text e.code e.place h.err; reported = h.reported }
 
 -- ---- one text after another
 
@@ -53,17 +53,17 @@ pub ok_no_error : (u : Unit {0}) (e : Error) → Ok u ≡ Err e → ⊥
 ok_no_error u e h = cc
 
 -- a failed call after written text is reported
-pub told_then : {A : Type 0} (a b c : SinkState) (p : List ℕ) (u : Unit {0}) (r : Result A Error) → WritesOutput a b p (Ok u) → (b.faults < c.faults → r ≡ Err writing_failed) → a.faults < c.faults → r ≡ Err writing_failed
-told_then a b c p u r g h l = elim (cases_lt a.faults b.faults) [ inl m ↦ absurd (ok_no_error u writing_failed (g.told m)) | inr m ↦ h (omega (arith, l, m)) ]
+pub reported_then : {A : Type 0} (a b c : SinkState) (p : List ℕ) (u : Unit {0}) (r : Result A Error) → WritesOutput a b p (Ok u) → (b.faults < c.faults → r ≡ Err writing_failed) → a.faults < c.faults → r ≡ Err writing_failed
+reported_then a b c p u r g h l = elim (cases_lt a.faults b.faults) [ inl m ↦ absurd (ok_no_error u writing_failed (g.reported m)) | inr m ↦ h (omega (arith, l, m)) ]
 
 pub WritesOutput-then : (a b c : SinkState) (p q : List ℕ) (u : Unit {0}) (r : Result (Unit {0}) Error) → WritesOutput a b p (Ok u) → WritesOutput b c q r → WritesOutput a c (p ++ q) r
 WritesOutput-then a b c p q u (Ok v) g h =
-    record { ok = Appends-trans a.gained b.gained c.gained p q g.ok h.ok; flushed = λ s. h.flushed (g.flushed s); err = tt; told = told_then a b c p u (Ok v) g h.told }
+    record { ok = Appends-trans a.gained b.gained c.gained p q g.ok h.ok; flushed = λ s. h.flushed (g.flushed s); err = tt; reported = reported_then a b c p u (Ok v) g h.reported }
 WritesOutput-then a b c p q u (Err e) g h =
-    record { ok = tt; flushed = tt; err = fails_then a b c p q e.code e.place g.ok h.err; told = told_then a b c p u (Err e) g h.told }
+    record { ok = tt; flushed = tt; err = fails_then a b c p q e.code e.place g.ok h.err; reported = reported_then a b c p u (Err e) g h.reported }
 
 pub WritesOutput-first : (a b : SinkState) (p q : List ℕ) (e : Error) → WritesOutput a b p (Err e) → WritesOutput a b (p ++ q) (Err e)
-WritesOutput-first a b p q e h = record { ok = tt; flushed = tt; err = fails_first a b p q e.code e.place h.err; told = h.told }
+WritesOutput-first a b p q e h = record { ok = tt; flushed = tt; err = fails_first a b p q e.code e.place h.err; reported = h.reported }
 
 -- memory ran out after written text
 pub written_then_none : (a b c : SinkState) (p : List ℕ) (u : Unit {0}) (e : Error) → WritesOutput a b p (Ok u) → e ≡ no_memory → c ≡ b → WritingFails a c p e.code e.place
@@ -83,14 +83,14 @@ ReportsUnlessMuted-then true true true a b c xs ys g h = h ∙ g
 ReportsUnlessMuted-then m true false a b c xs ys g h = absurd h
 ReportsUnlessMuted-then true false q a b c xs ys g h = absurd g
 
-told_row : (code : ErrorCode) (place : Place) (a c : SinkState) → WritingCause a c code place → Rose a.faults c.faults ⊎ Rose a.lacks c.lacks
-told_row NoMemory nowhere a c h = inr h
-told_row Io Writing a c h = inl h
-told_row code place a c h = absurd h
+reported_row : (code : ErrorCode) (place : Place) (a c : SinkState) → WritingCause a c code place → Rose a.faults c.faults ⊎ Rose a.lacks c.lacks
+reported_row NoMemory nowhere a c h = inr h
+reported_row Io Writing a c h = inl h
+reported_row code place a c h = absurd h
 
 pub Reports-from : (muted : Bool) (a c : SinkState) (text : List ℕ) → ReportsUnlessMuted false muted a c text → Reports text a c
 Reports-from false a c text h = inl h.ok
-Reports-from true a c text h = inr (h.1.err, told_row h.0.code h.0.place a c h.1.cause)
+Reports-from true a c text h = inr (h.1.err, reported_row h.0.code h.0.place a c h.1.cause)
 
 -- all was reported, and then one text more
 last_text : (a b c : SinkState) (xs text : List ℕ) → Puts a b xs (Ok tt) → Reports text b c → Reports (xs ++ text) a c
@@ -101,4 +101,4 @@ last_text a b c xs text h (inr (front, inr rose)) = inr (AppendsFront-then a.gai
 pub Reports-last : (muted : Bool) (a b c : SinkState) (xs text : List ℕ) → ReportsUnlessMuted false muted a b xs → (muted ≡ false → Reports text b c) → (muted ≡ true → c ≡ b) → Reports (xs ++ text) a c
 Reports-last false a b c xs text h reported silent = last_text a b c xs text h (reported refl)
 Reports-last true a b c xs text h reported silent =
-    subst (Reports (xs ++ text) a) (sym (silent refl)) (inr (AppendsFront-first a.gained b.gained xs text h.1.err, told_row h.0.code h.0.place a b h.1.cause))
+    subst (Reports (xs ++ text) a) (sym (silent refl)) (inr (AppendsFront-first a.gained b.gained xs text h.1.err, reported_row h.0.code h.0.place a b h.1.cause))

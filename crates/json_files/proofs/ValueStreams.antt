@@ -13,7 +13,7 @@ use Rattle.json_io.specs.declared.error.ErrorCode.TheVariants.{NoMemory}
 use Rattle.json_io.specs.declared.error.Place.{Place}
 use Rattle.json_io.specs.declared.error.Place.TheVariants.{None as nowhere}
 use Rattle.json_text.specs.Faults.{ValueFaultFrom}
-use Rattle.json_text.specs.Parsing.{ParserState, input, taken}
+use Rattle.json_text.specs.Parsing.{ParserState, input, consumed}
 use Rattle.json_doc.specs.declared.doc.Doc.{Doc}
 use Rattle.json_doc.specs.Docs.{IsDocOf, doc_tree, doc_root}
 use Rattle.json_doc.specs.Reading.{FrontFails}
@@ -50,19 +50,19 @@ module _ (b : List ℕ) (i j : ℕ) (t : Tree) where
 
 -- a parser that began at i read a value and is after it
 module _ (b : List ℕ) (i : ℕ) (old new : ParserState) (text : old.text ≡ b) (start : old.start ≡ i) (lossy : old.lossy ≡ false) (limit : old.limit ≡ 254) where
-  front_value : (t : Tree) → reads old.lossy (input old) t (taken new) → new.start ≡ old.start → reads false (drop i b) t (new.index - i)
+  front_value : (t : Tree) → reads old.lossy (input old) t (consumed new) → new.start ≡ old.start → reads false (drop i b) t (new.index - i)
   front_value t r same =
       let in_text : input old ≡ drop i b = ap₂ drop start text in
-      let size : taken new ≡ new.index - i = ap (λ s. new.index - s) (same ∙ start) in
-      subst (λ n. reads false (drop i b) t n) size (subst (λ x. reads false x t (taken new)) in_text (subst (λ l. reads l (input old) t (taken new)) lossy r))
+      let size : consumed new ≡ new.index - i = ap (λ s. new.index - s) (same ∙ start) in
+      subst (λ n. reads false (drop i b) t n) size (subst (λ x. reads false x t (consumed new)) in_text (subst (λ l. reads l (input old) t (consumed new)) lossy r))
 
-  pub front_read : (d : Doc) → IsCharBoundary b i → new.start ≡ old.start → (t : Tree) × reads old.lossy (input old) t (taken new) × (depth t ≤ old.limit) × IsDocOf d t → ReadsAt b i (doc_tree d (doc_root d)) new.index
+  pub front_read : (d : Doc) → IsCharBoundary b i → new.start ≡ old.start → (t : Tree) × reads old.lossy (input old) t (consumed new) × (depth t ≤ old.limit) × IsDocOf d t → ReadsAt b i (doc_tree d (doc_root d)) new.index
   front_read d h same (t, r, levels, doc) =
       let value = front_value t r same in
       let some = reads_some (drop i b) t (new.index - i) value in
       subst (λ x. ReadsAt b i x new.index) (sym (root_is d t doc)) (reads_at b i new.index t h.0 (omega (arith, some)) value (subst (λ n. depth t ≤ n) limit levels))
 
-  pub front_boundary : (d : Doc) → IsUtf8 b → IsCharBoundary b i → new.start ≡ old.start → (t : Tree) × reads old.lossy (input old) t (taken new) × (depth t ≤ old.limit) × IsDocOf d t → IsCharBoundary b new.index
+  pub front_boundary : (d : Doc) → IsUtf8 b → IsCharBoundary b i → new.start ≡ old.start → (t : Tree) × reads old.lossy (input old) t (consumed new) × (depth t ≤ old.limit) × IsDocOf d t → IsCharBoundary b new.index
   front_boundary d u h same (t, r, levels, doc) =
       let value = front_value t r same in
       let some = reads_some (drop i b) t (new.index - i) value in

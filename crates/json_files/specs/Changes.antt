@@ -1,7 +1,7 @@
 -- Changes of trees, and why they do not apply.
 use Rattle.std.specs.Prelude.{◌≡◌, ◌⊎◌, ℕ, None, Some, Result, Ok, Err}
 use Rattle.json_grammar.specs.Tree.{Tree}
-use Rattle.json_model.specs.Edit.{Changed, Refusal, not_found, type_unmatched}
+use Rattle.json_model.specs.Edit.{Changed, EditRefusal, not_found, type_unmatched}
 use Rattle.json_files.specs.declared.change_error.ChangeCode.TheVariants as code
 use Rattle.json_files.specs.declared.change_error.ChangeError.{ChangeError}
 
@@ -20,7 +20,7 @@ not_there = record { code = code.NotFound; number = None }
 -- ---- edits
 
 -- what edits make of a tree
-abbrev pub outcome_of_edits : Result Tree (ℕ × Refusal) → Result Tree ChangeError
+abbrev pub outcome_of_edits : Result Tree (ℕ × EditRefusal) → Result Tree ChangeError
 outcome_of_edits (Ok tree) = Ok tree
 outcome_of_edits (Err (number, not_found)) = Err (record { code = code.NotFound; number = Some number })
 outcome_of_edits (Err (number, type_unmatched)) = Err (record { code = code.TypeUnmatched; number = Some number })

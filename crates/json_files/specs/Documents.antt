@@ -1,7 +1,7 @@
 -- The outcomes of documents. If not of the whole, they are those of the first parts.
 use Rattle.std.specs.Prelude.{◌≡◌, ◌⊎◌, ℕ, Bool, true, false, List, [], ◌∷◌, ◌++◌, Some, None, option_map, string_bytes}
 use Rattle.std.specs.declared.option.Option.{Option}
-use Rattle.json_files.specs.declared.document.Document.{Document}
+use Rattle.json_files.specs.declared.document.NamedDocument.{NamedDocument}
 use Rattle.json_files.specs.declared.job.InputForm.{InputForm}
 use Rattle.json_files.specs.declared.job.InputForm.TheVariants.{One, Lines, Stream}
 use Rattle.json_files.specs.Outcomes.{Task, PartOutcome, HasPartOutcome, LineOutcome, IsUnread, PartsHave}
@@ -9,7 +9,7 @@ use Rattle.json_files.specs.Parts.{whole_part, line_parts, lines_of}
 use Rattle.json_files.specs.Streams.{ValuesHave}
 
 -- the bytes of a document, if they could be read
-abbrev pub document_bytes : Document → Option (List ℕ)
+abbrev pub document_bytes : NamedDocument → Option (List ℕ)
 document_bytes d = option_map (λ v. v.items) d.bytes
 
 abbrev pub BytesHave : Bool → Task → List ℕ → Option (List ℕ) → InputForm → List PartOutcome → Type 0
@@ -19,11 +19,11 @@ BytesHave whole task name (Some b) Lines outcomes = PartsHave whole (LineOutcome
 BytesHave whole task name (Some b) Stream outcomes = ValuesHave whole task name b outcomes
 
 -- a document has these outcomes
-abbrev pub DocumentHas : Bool → Task → Document → List PartOutcome → Type 0
+abbrev pub DocumentHas : Bool → Task → NamedDocument → List PartOutcome → Type 0
 DocumentHas whole task d outcomes = BytesHave whole task (string_bytes d.name) (document_bytes d) task.form outcomes
 
 -- the documents have these outcomes, one after another
-abbrev pub DocumentsHave : Bool → Task → List Document → List PartOutcome → Type 0
+abbrev pub DocumentsHave : Bool → Task → List NamedDocument → List PartOutcome → Type 0
 DocumentsHave whole task [] outcomes = outcomes ≡ []
 DocumentsHave true task (d ∷ ds) outcomes = (first : List PartOutcome) × (later : List PartOutcome) × DocumentHas true task d first × DocumentsHave true task ds later × (outcomes ≡ first ++ later)
 DocumentsHave false task (d ∷ ds) outcomes =

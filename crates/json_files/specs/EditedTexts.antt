@@ -9,7 +9,7 @@ use Rattle.json_layout.specs.Shown.{shown_as}
 use Rattle.json_layout.specs.Styles.{is_sorted}
 use Rattle.json_layout.specs.declared.style.Style.{Style}
 use Rattle.json_files.specs.declared.change_error.ChangeError.{ChangeError}
-use Rattle.json_files.specs.declared.document.Document.{Document}
+use Rattle.json_files.specs.declared.document.NamedDocument.{NamedDocument}
 use Rattle.json_files.specs.declared.job.Job.{Job}
 use Rattle.json_files.specs.Documents.{DocumentsHave, document_bytes}
 use Rattle.json_files.specs.FoundLayouts.{found_indent, ends_line, line_end}
@@ -17,7 +17,7 @@ use Rattle.json_files.specs.Running.{PrintsSome}
 use Rattle.json_files.specs.Outcomes.{Task, PartOutcome, output_of, reports_of, greatest_status}
 
 -- the bytes of a document; none if they could not be read
-abbrev pub bytes_or_none : Document → List ℕ
+abbrev pub bytes_or_none : NamedDocument → List ℕ
 bytes_or_none d = unwrap_or (document_bytes d) []
 
 -- the job sorts members
@@ -33,7 +33,7 @@ abbrev pub with_end_of : List ℕ → List ℕ → List ℕ
 with_end_of b output = cond (ends_line b) output (take (length output - 1) output)
 
 -- the text is the output of a run over the document, whose errors were reported; the status is the greatest
-pub record EditsDocument (task : Task) (d : Document) (errs errs' : SinkState) (text : List ℕ) (status : ℕ) : Type 0 where
+pub record EditsDocument (task : Task) (d : NamedDocument) (errs errs' : SinkState) (text : List ℕ) (status : ℕ) : Type 0 where
   pub outcomes : List PartOutcome
   pub have : DocumentsHave true task (d ∷ []) outcomes
   pub whole : text ≡ with_end_of (bytes_or_none d) (output_of outcomes)
@@ -49,5 +49,5 @@ pub record KeepsLayout (rules : Rules) (changed : Tree → Result Tree ChangeErr
   pub whole : text ≡ shown_as (found_indent b) sorts edited ++ line_end b
 
 -- memory ran out: the errors of the first parts were reported, and then that of the run
-abbrev pub FailsToEdit : Task → Document → SinkState → SinkState → ℕ → Type 0
+abbrev pub FailsToEdit : Task → NamedDocument → SinkState → SinkState → ℕ → Type 0
 FailsToEdit task d errs errs' status = (sink : SinkState) × (sink' : SinkState) × PrintsSome task (d ∷ []) sink sink' errs errs' status

@@ -17,7 +17,7 @@ use Rattle.json_layout.specs.Styles.{printed}
 use Rattle.json_layout.specs.declared.style.Style.{Style}
 use Rattle.json_command.specs.Input.{IsInput, InputFault}
 use Rattle.json_command.specs.Statuses.{status_of}
-use Rattle.json_files.specs.Parts.{Part, whole_part, line_parts, lines_of}
+use Rattle.json_files.specs.Parts.{DocumentPart, whole_part, line_parts, lines_of}
 use Rattle.json_files.specs.Reports.{IsReport}
 use Rattle.json_files.specs.declared.change_error.ChangeError.{ChangeError}
 use Rattle.json_files.specs.declared.document_error.DocumentError.{DocumentError}
@@ -28,14 +28,14 @@ use Rattle.json_files.specs.declared.job.Job.{Job}
 -- ---- what is done
 
 -- the text of a tree in a style, or the content of a string
-abbrev pub text_in : Bool → Style → Tree → List ℕ
-text_in false style tree = printed style tree
-text_in true style tree = unwrap_or (string_of tree) (printed style tree)
+abbrev pub printed_or_string : Bool → Style → Tree → List ℕ
+printed_or_string false style tree = printed style tree
+printed_or_string true style tree = unwrap_or (string_of tree) (printed style tree)
 
 -- the line of a tree in the output: its text and a newline; nothing if no style is asked for
 abbrev pub line_in : Bool → Option Style → Tree → List ℕ
 line_in raw None tree = []
-line_in raw (Some style) tree = text_in raw style tree ++ 10 ∷ []
+line_in raw (Some style) tree = printed_or_string raw style tree ++ 10 ∷ []
 
 -- what is done with documents: how their bytes are cut, the rules by which they are read, what becomes of a tree, and the
 -- line of a tree
@@ -57,27 +57,27 @@ pub data PartOutcome : Type 0 where
   Refused : DocumentError → List ℕ → PartOutcome
 
 -- the outcome of a tree that was read: the line of the changed tree, or the error of the change
-abbrev pub TreeOutcome : Task → Part → Tree → PartOutcome → Type 0
+abbrev pub TreeOutcome : Task → DocumentPart → Tree → PartOutcome → Type 0
 TreeOutcome task part tree (Printed line) = (changed : Tree) × (task.changed tree ≡ Ok changed) × (line ≡ task.line changed)
 TreeOutcome task part tree (Refused (Change e) report) = (task.changed tree ≡ Err e) × IsReport part (Change e) report
 TreeOutcome task part tree (Refused (Input e) report) = ⊥
 
 -- the outcome of bytes: that of their tree, or their error
-abbrev pub HasPartOutcome : Task → Part → PartOutcome → Type 0
+abbrev pub HasPartOutcome : Task → DocumentPart → PartOutcome → Type 0
 HasPartOutcome task part (Refused (Input e) report) = InputFault task.rules part.bytes e.code e.place × IsReport part (Input e) report
 HasPartOutcome task part outcome = (tree : Tree) × IsInput task.rules part.bytes tree × TreeOutcome task part tree outcome
 
 -- the outcome of a line: nothing is printed of one that has only whitespace (RFC 8259, section 2)
-abbrev pub LineOutcome : Task → Part → PartOutcome → Type 0
+abbrev pub LineOutcome : Task → DocumentPart → PartOutcome → Type 0
 LineOutcome task part outcome = (ws part.bytes × (outcome ≡ Printed [])) ⊎ (¬ (ws part.bytes) × HasPartOutcome task part outcome)
 
 -- the outcome of a document that could not be read
-abbrev pub IsUnread : Part → PartOutcome → Type 0
+abbrev pub IsUnread : DocumentPart → PartOutcome → Type 0
 IsUnread part (Refused (Input e) report) = (e ≡ reading_failed) × IsReport part (Input e) report
 IsUnread part _ = ⊥
 
 -- these parts have these outcomes; if not of the whole, the first of them
-abbrev pub PartsHave : Bool → (Part → PartOutcome → Type 0) → List Part → List PartOutcome → Type 0
+abbrev pub PartsHave : Bool → (DocumentPart → PartOutcome → Type 0) → List DocumentPart → List PartOutcome → Type 0
 PartsHave whole Has [] [] = ⊤
 PartsHave whole Has (part ∷ later) [] = whole ≡ false
 PartsHave whole Has [] (outcome ∷ outcomes) = ⊥

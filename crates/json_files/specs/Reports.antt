@@ -14,8 +14,8 @@ use Rattle.json_files.specs.declared.part.Scope.{Scope}
 use Rattle.json_files.specs.declared.part.Scope.TheVariants.{Document, Line, Value}
 use Rattle.json_files.specs.declared.report.Position.{Position}
 use Rattle.json_files.specs.Excerpts.{IsExcerpt}
-use Rattle.json_files.specs.Parts.{Part}
-use Rattle.json_files.specs.Sentences.{is_word, document_sentence, HintFits, hint_line}
+use Rattle.json_files.specs.Parts.{DocumentPart}
+use Rattle.json_files.specs.Sentences.{is_lower_case, document_sentence, HintFits, hint_line}
 
 -- ---- the first line
 
@@ -67,10 +67,10 @@ IsExcerptAt bytes None excerpt = excerpt ≡ []
 IsExcerptAt bytes (Some offset) excerpt = IsExcerpt bytes offset excerpt
 
 -- the first line, the excerpt, and a hint or nothing
-pub record IsReport (part : Part) (error : DocumentError) (report : List ℕ) : Type 0 where
+pub record IsReport (part : DocumentPart) (error : DocumentError) (report : List ℕ) : Type 0 where
   -- the word for a part of the change
   pub part_name : List ℕ
-  pub part_name_is_word : is_word part_name ≡ true
+  pub part_name_is_word : is_lower_case part_name ≡ true
   pub line : List ℕ
   pub headline : IsHeadline part.name (position_of part.before part.bytes (report_offset part.bytes (error_place part.scope error))) (document_sentence part.scope part_name error) (document_error_name error) line
   pub excerpt : List ℕ

@@ -18,13 +18,13 @@ use Rattle.json_command.specs.Statuses.{status_of}
 use Rattle.json_value.specs.Denotes.{tree_of}
 use Rattle.json_value.specs.declared.value.Value.{Value}
 use Rattle.json_files.specs.declared.change_error.ChangeError.{ChangeError}
-use Rattle.json_files.specs.declared.document.Document.{Document}
+use Rattle.json_files.specs.declared.document.NamedDocument.{NamedDocument}
 use Rattle.json_files.specs.declared.document_error.DocumentError.{DocumentError}
 use Rattle.json_files.specs.declared.document_error.DocumentError.TheVariants.{Input, Change}
-use Rattle.json_files.specs.declared.run.Tally.{Tally}
+use Rattle.json_files.specs.declared.run.DocumentTally.{DocumentTally}
 use Rattle.json_files.specs.Documents.{DocumentsHave}
 use Rattle.json_files.specs.Outcomes.{Task, PartOutcome, output_of, reports_of, document_error_status, greatest_status}
-use Rattle.json_files.specs.Parts.{Part}
+use Rattle.json_files.specs.Parts.{DocumentPart}
 use Rattle.json_files.specs.Reports.{IsReport}
 use Rattle.json_files.specs.Writing.{WritesOutput, WritingFails}
 
@@ -62,20 +62,20 @@ BytesStop task b old new error = ((error ≡ no_memory) × (new ≡ old)) ⊎ ((
 -- ---- of parts of documents
 
 -- the report of the error was made
-pub record ReportsError (part : Part) (error : DocumentError) (old new : Tally) (errs errs' : SinkState) : Type 0 where
+pub record ReportsError (part : DocumentPart) (error : DocumentError) (old new : DocumentTally) (errs errs' : SinkState) : Type 0 where
   pub report : List ℕ
   pub is_report : IsReport part error report
   pub reported : ReportsUnlessMuted old.muted new.muted errs errs' report
   pub status : new.status ≡ max old.status (document_error_status error)
 
 -- memory ran out for it, and nothing was done
-pub record ReportingFails (old new : Tally) (errs errs' : SinkState) (error : Error) : Type 0 where
+pub record ReportingFails (old new : DocumentTally) (errs errs' : SinkState) (error : Error) : Type 0 where
   pub only : error ≡ no_memory
   pub kept : new ≡ old
   pub silent : errs' ≡ errs
 
 -- each line was written, each report made, and the status is the greatest
-pub record Handles (Has : List PartOutcome → Type 0) (old new : Tally) (sink sink' errs errs' : SinkState) : Type 0 where
+pub record Handles (Has : List PartOutcome → Type 0) (old new : DocumentTally) (sink sink' errs errs' : SinkState) : Type 0 where
   pub outcomes : List PartOutcome
   pub have : Has outcomes
   pub output : WritesOutput sink sink' (output_of outcomes) (Ok tt)
@@ -83,7 +83,7 @@ pub record Handles (Has : List PartOutcome → Type 0) (old new : Tally) (sink s
   pub status : new.status ≡ max old.status (greatest_status outcomes)
 
 -- the lines were written but for the last ones, and the reports made
-pub record StopsRunning (Has : List PartOutcome → Type 0) (old new : Tally) (sink sink' errs errs' : SinkState) (error : Error) : Type 0 where
+pub record StopsRunning (Has : List PartOutcome → Type 0) (old new : DocumentTally) (sink sink' errs errs' : SinkState) (error : Error) : Type 0 where
   pub outcomes : List PartOutcome
   pub have : Has outcomes
   pub output : WritingFails sink sink' (output_of outcomes) error.code error.place
@@ -93,7 +93,7 @@ pub record StopsRunning (Has : List PartOutcome → Type 0) (old new : Tally) (s
 
 -- status 0 to 4: the output is the lines of the changed trees, in order; each error was reported, or a prefix of the
 -- reports if that sink failed or memory ran out; the status is the greatest
-pub record PrintsAll (task : Task) (documents : List Document) (sink sink' errs errs' : SinkState) (status : ℕ) : Type 0 where
+pub record PrintsAll (task : Task) (documents : List NamedDocument) (sink sink' errs errs' : SinkState) (status : ℕ) : Type 0 where
   pub outcomes : List PartOutcome
   pub have : DocumentsHave true task documents outcomes
   pub output : Appends sink.gained sink'.gained (output_of outcomes)
@@ -103,7 +103,7 @@ pub record PrintsAll (task : Task) (documents : List Document) (sink sink' errs 
 
 -- status 5 or 6: writing failed or memory ran out; the output is a prefix of that of the first parts of the documents,
 -- whose errors were reported, and then the error of the run
-pub record PrintsSome (task : Task) (documents : List Document) (sink sink' errs errs' : SinkState) (status : ℕ) : Type 0 where
+pub record PrintsSome (task : Task) (documents : List NamedDocument) (sink sink' errs errs' : SinkState) (status : ℕ) : Type 0 where
   pub error : Error
   pub status_is : status ≡ status_of error.code error.place
   pub outcomes : List PartOutcome

@@ -51,23 +51,23 @@ change_sentence change.BadPatch = codes "the patch is not an array of operations
 change_sentence change.TestFailed = codes "`test` found another value"
 
 -- lower case letters alone
-abbrev pub is_word : List ℕ → Bool
-is_word word = list_all (λ x. nat_le 97 x && nat_le x 122) word
+abbrev pub is_lower_case : List ℕ → Bool
+is_lower_case word = list_all (λ x. nat_le 97 x && nat_le x 122) word
 
 -- a word, its number and a colon, if there is a number
-abbrev pub counted : List ℕ → Option ℕ → List ℕ
-counted word None = []
-counted word (Some n) = word ++ codes " " ++ decimal n ++ codes ": "
+abbrev pub counted_word : List ℕ → Option ℕ → List ℕ
+counted_word word None = []
+counted_word word (Some n) = word ++ codes " " ++ decimal n ++ codes ": "
 
 -- the number of a value of a stream
-abbrev pub value_number : Scope → Option ℕ
-value_number (Value n) = Some n
-value_number scope = None
+abbrev pub scope_number : Scope → Option ℕ
+scope_number (Value n) = Some n
+scope_number scope = None
 
 -- the sentence of a report; a part of the change has this name
 abbrev pub document_sentence : Scope → List ℕ → DocumentError → List ℕ
 document_sentence scope part_name (Input e) = input_sentence e.code
-document_sentence scope part_name (Change e) = counted (codes "value") (value_number scope) ++ counted part_name e.number ++ change_sentence e.code
+document_sentence scope part_name (Change e) = counted_word (codes "value") (scope_number scope) ++ counted_word part_name e.number ++ change_sentence e.code
 
 -- ---- hints
 

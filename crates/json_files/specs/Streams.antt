@@ -16,7 +16,7 @@ use Rattle.json_command.specs.Input.{max_bytes}
 use Rattle.json_files.specs.declared.document_error.DocumentError.TheVariants.{Input, Change}
 use Rattle.json_files.specs.Outcomes.{Task, PartOutcome, Printed, Refused, TreeOutcome, PartsHave}
 use Rattle.json_files.specs.declared.value_stream.StreamPlace.{StreamPlace}
-use Rattle.json_files.specs.Parts.{Part, whole_part, value_part}
+use Rattle.json_files.specs.Parts.{DocumentPart, whole_part, value_part}
 use Rattle.json_files.specs.Reports.{IsReport}
 
 -- after whitespace from i on follows a value of the tree, which ends at j
@@ -61,7 +61,7 @@ TextFault b TooLarge nowhere = max_bytes < length b
 TextFault b code place = Utf8Cause b code place
 
 -- the outcome of bytes that are no text
-abbrev pub OutcomeIsNoText : Part → PartOutcome → Type 0
+abbrev pub OutcomeIsNoText : DocumentPart → PartOutcome → Type 0
 OutcomeIsNoText part (Refused (Input e) report) = TextFault part.bytes e.code e.place × IsReport part (Input e) report
 OutcomeIsNoText part _ = ⊥
 

@@ -27,4 +27,4 @@ pub record WritesOutput (old new : SinkState) (text : List ℕ) (result : Result
   pub ok : OnOk result (Appends old.gained new.gained text)
   pub flushed : OnOk result (old.unflushed ≡ false → new.unflushed ≡ false)
   pub err : IfErr result (λ e. WritingFails old new text e.code e.place)
-  pub told : old.faults < new.faults → IsErrOf result writing_failed
+  pub reported : old.faults < new.faults → IsErrOf result writing_failed

@@ -8,18 +8,18 @@ use std::alloc::Global;
 /// A change of values, which applies to a value or fails.
 ///
 /// ```
-/// use json_files::{Change, Unchanged};
+/// use json_files::{ValueChange, Unchanged};
 /// use json_value::Value;
 /// let mut value = Value::Bool(true);
 /// assert!(rt; Unchanged.apply(alloc, &mut value).is_ok());
 /// assert!(rt; matches!(value, Value::Bool(true)));
 /// ```
-pub trait Change {
+pub trait ValueChange {
     ghost use Rattle.std.specs.Prelude.{◌≡◌, true, Result, Ok, OnOk, IfErr};
     ghost use Rattle.json_grammar.specs.Tree.{Tree};
     ghost use Rattle.json_value.specs.Denotes.{tree_of};
     ghost use Rattle.json_files.specs.Changes.{ChangeFails};
-    ghost use Rattle.json_files.specs.Sentences.{is_word};
+    ghost use Rattle.json_files.specs.Sentences.{is_lower_case};
     ghost use Rattle.json_files.specs.declared.change_error.ChangeError.{ChangeError};
 
     /// What becomes of a tree: the changed tree, or why the change does not apply to it.
@@ -33,13 +33,13 @@ pub trait Change {
 
     /// Returns the word for a part of the change in reports, as `edit`: lower case letters alone.
     fn part_name(&self) -> &'static str
-        ensures word { is_word result.now ≡ true };
+        ensures word { is_lower_case result.now ≡ true };
 }
 
 /// The change that leaves each value as it is.
 ///
 /// ```
-/// use json_files::{Change, Unchanged};
+/// use json_files::{ValueChange, Unchanged};
 /// use json_value::Value;
 /// let mut value = Value::Null;
 /// assert!(rt; Unchanged.apply(alloc, &mut value).is_ok());
@@ -47,7 +47,7 @@ pub trait Change {
 #[derive(Clone, Copy, Debug, Drop)]
 pub struct Unchanged;
 
-impl Change for Unchanged {
+impl ValueChange for Unchanged {
     ghost changed = { λ _ t. Ok t };
 
     fn apply(&self, alloc: Global, _value: &mut Value) -> Result<(), ChangeError> {

@@ -8,7 +8,8 @@ ghost use Rattle.json_io.specs.Errors.{OnlyNoMemory};
 ghost use Rattle.json_text.specs.Ruled.{rules_of};
 
 use json_doc::{Doc, read_document_with};
-use json_text::{Error, ErrorCode, Place, Result, Rules, check_utf8};
+use json_io::{Error, ErrorCode, Place, Result, check_utf8};
+use json_text::Rules;
 use std::alloc::Global;
 use std::rc::Rc;
 
@@ -18,26 +19,26 @@ pub(crate) const MAX_BYTES: usize = 4_294_967_295;
 /// A document in memory: the name by which errors are reported, and its bytes.
 ///
 /// ```
-/// use json_files::Document;
-/// let document = Document::new(alloc, "a.json", b"[1]")?;
+/// use json_files::NamedDocument;
+/// let document = NamedDocument::new(alloc, "a.json", b"[1]")?;
 /// assert_eq!(rt; document.name.as_str(), "a.json");
 /// ```
 #[derive(Drop)]
-pub struct Document {
+pub struct NamedDocument {
     /// The name by which errors are reported.
     pub name: String,
     /// The bytes; none if they could not be read.
     pub bytes: Option<Vec<u8>>,
 }
 
-impl Document {
+impl NamedDocument {
     /// Copies a name and bytes. Fails with `NoMemory` if memory runs out.
-    pub fn new(alloc: Global, name: &str, bytes: &[u8]) -> Result<Document>
+    pub fn new(alloc: Global, name: &str, bytes: &[u8]) -> Result<NamedDocument>
         ensures name { IfOk result (λ d. string_bytes d.name ≡ name.now) }
         ensures bytes { IfOk result (λ d. document_bytes d ≡ Some bytes.now) }
         ensures only { OnlyNoMemory result }
     {
-        Ok(Document {
+        Ok(NamedDocument {
             name: String::from_str(alloc, name)?,
             bytes: Some(bytes.to_vec(alloc)?),
         })

@@ -4,7 +4,7 @@ ghost use Rattle.json_files.specs.Outcomes.{document_error_status};
 
 use crate::change_error::ChangeError;
 use json_command::Status;
-use json_text::Error;
+use json_io::Error;
 
 /// Why a document, or a part of it, is not printed.
 ///

@@ -6,9 +6,9 @@ ghost use Rattle.json_model.specs.Edit.{Edit as ModelEdit, edited};
 ghost use Rattle.json_value.specs.Edits.{edit_of};
 ghost use Rattle.reshape.specs.Reshape.{EditingRefuses};
 
-use crate::change::Change;
+use crate::change::ValueChange;
 use crate::change_error::{ChangeCode, ChangeError};
-use json_text::{Error, ErrorCode, Place};
+use json_io::{Error, ErrorCode, Place};
 use json_value::{Edit, Value};
 use reshape::apply_all;
 use std::alloc::Global;
@@ -16,7 +16,7 @@ use std::alloc::Global;
 /// The change by edits, which apply in turn.
 ///
 /// ```
-/// use json_files::{Change, EditAll};
+/// use json_files::{ValueChange, EditAll};
 /// use json_value::{Edit, Path, Value};
 /// let edits = [Edit::Push { path: Path::new(alloc), value: Value::new_bool(true) }];
 /// let change = EditAll::new(&edits).ok_or("too many edits")?;
@@ -67,7 +67,7 @@ fn change_error(error: Error) -> ChangeError
     }
 }
 
-impl<'a> Change for EditAll<'a> {
+impl<'a> ValueChange for EditAll<'a> {
     ghost use Rattle.json_files.specs.EditLists.{listed_edits};
 
     ghost changed = { λ change tree. outcome_of_edits (edited (listed_edits change) tree) };

@@ -4,15 +4,15 @@ ghost use Rattle.json_files.specs.Changes.{ChangeFails, outcome_of_edit};
 ghost use Rattle.json_files.specs.PointedEdits.{edited_at};
 ghost use Rattle.json_grammar.specs.Tree.{Tree};
 ghost use Rattle.json_io.specs.Errors.{OnlyNoMemory};
-ghost use Rattle.json_model.specs.Edit.{Refusal};
+ghost use Rattle.json_model.specs.Edit.{EditRefusal};
 ghost use Rattle.json_patch.specs.Lookups.{pointer_tokens};
 ghost use Rattle.json_value.specs.Denotes.{tree_of};
 ghost use Rattle.json_value.specs.Edits.{step_of, path_steps, edit_of, edit_at, Makes, FailsAs, RefusesChange};
 
-use crate::change::Change;
+use crate::change::ValueChange;
 use crate::change_error::{ChangeCode, ChangeError};
+use json_io::{Error, ErrorCode};
 use json_patch::Pointer;
-use json_text::{Error, ErrorCode};
 use json_value::{Edit, Path, PointerNode, Value};
 use std::alloc::Global;
 
@@ -20,7 +20,7 @@ use std::alloc::Global;
 /// of the edit. A token is an index in an array and a key in an object.
 ///
 /// ```
-/// use json_files::{Change, EditAt};
+/// use json_files::{ValueChange, EditAt};
 /// use json_patch::Pointer;
 /// use json_value::{Edit, Path, Value};
 /// let pointer = Pointer::parse(alloc, "/0")?;
@@ -39,7 +39,7 @@ pub struct EditAt<'a> {
 }
 
 // Copies a step.
-fn copy_step(alloc: Global, step: &PointerNode) -> json_text::Result<PointerNode>
+fn copy_path_step(alloc: Global, step: &PointerNode) -> json_io::Result<PointerNode>
     ensures same { IfOk result (λ copy. step_of copy ≡ step_of step.now) }
     ensures only { OnlyNoMemory result }
 {
@@ -53,7 +53,7 @@ fn copy_step(alloc: Global, step: &PointerNode) -> json_text::Result<PointerNode
 }
 
 // Copies an edit to another path.
-fn copy_to(alloc: Global, edit: &Edit, path: Path) -> json_text::Result<Edit>
+fn copy_at(alloc: Global, edit: &Edit, path: Path) -> json_io::Result<Edit>
     ensures same { IfOk result (λ copy. edit_of copy ≡ edit_at (path_steps path) edit.now) }
     ensures only { OnlyNoMemory result }
 {
@@ -72,32 +72,27 @@ fn copy_to(alloc: Global, edit: &Edit, path: Path) -> json_text::Result<Edit>
             Ok(Edit::Push { path, value })
         }
         Edit::Remove { step, .. } => {
-            let step = copy_step(alloc, step)?;
+            let step = copy_path_step(alloc, step)?;
             Ok(Edit::Remove { path, step })
         }
     }
 }
 
 // Applies an edit at the place of a pointer.
-fn apply_at(
-    alloc: Global,
-    pointer: &Pointer,
-    edit: &Edit,
-    value: &mut Value,
-) -> json_text::Result<()>
+fn apply_at(alloc: Global, pointer: &Pointer, edit: &Edit, value: &mut Value) -> json_io::Result<()>
     ensures ok { OnOk result (Makes (edited_at (pointer_tokens pointer.now) edit.now
         (tree_of value.old)) value.new) }
     ensures refused { FailsAs (edited_at (pointer_tokens pointer.now) edit.now
         (tree_of value.old)) result }
 {
     let path = pointer.path_in(alloc, value.view())?;
-    let moved = copy_to(alloc, edit, path)?;
+    let moved = copy_at(alloc, edit, path)?;
     value.apply(alloc, &moved)
 }
 
 // Returns the error of the edit.
 fn change_error(error: Error) -> ChangeError
-    ensures { (made : Result Tree Refusal) → RefusesChange made error.code error.place
+    ensures { (made : Result Tree EditRefusal) → RefusesChange made error.code error.place
         → ChangeFails (outcome_of_edit made) result }
 {
     match error.code {
@@ -116,7 +111,7 @@ fn change_error(error: Error) -> ChangeError
     }
 }
 
-impl<'a> Change for EditAt<'a> {
+impl<'a> ValueChange for EditAt<'a> {
     ghost changed = { λ change tree. outcome_of_edit
         (edited_at (pointer_tokens change.pointer.now) change.edit.now tree) };
 

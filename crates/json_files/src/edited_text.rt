@@ -7,22 +7,22 @@ ghost use Rattle.json_files.specs.declared.job.InputForm.TheVariants.{One};
 ghost use Rattle.json_layout.specs.declared.style.Style.{Style as ModelStyle};
 ghost use Rattle.json_text.specs.Ruled.{rules_of};
 
-use crate::change::Change;
-use crate::document::Document;
+use crate::change::ValueChange;
+use crate::document::NamedDocument;
 use crate::found_layout::{ends_line, find_style};
 use crate::job::Job;
 use crate::run::print_documents;
-use json_print::Style;
-use json_text::{Sink, VecSink};
+use json_io::{Sink, VecSink};
+use json_layout::Style;
 use std::alloc::Global;
 use std::slice;
 
 /// The text of a document that was edited, and the status.
 ///
 /// ```
-/// use json_files::{Document, Job, Unchanged, edit_document};
+/// use json_files::{NamedDocument, Job, Unchanged, edit_document};
 /// use json_text::{Rules, VecSink};
-/// let document = Document::new(alloc, "a.json", b"[\n  1, 2]")?;
+/// let document = NamedDocument::new(alloc, "a.json", b"[\n  1, 2]")?;
 /// let job = Job::new(Unchanged, None, Rules::usual());
 /// let edited = edit_document(alloc, &document, &job, &mut VecSink::new(alloc));
 /// assert_eq!(rt; edited.status, 0);
@@ -60,7 +60,7 @@ fn in_style<'a, C: Copy>(job: &Job<'_, C>, style: Style<'a>) -> Job<'a, C>
 }
 
 // Returns the bytes of a document; none if they could not be read.
-fn bytes_of(document: &Document) -> &[u8]
+fn bytes_of(document: &NamedDocument) -> &[u8]
     ensures { result.now ≡ bytes_or_none document.now }
 {
     match &document.bytes {
@@ -86,19 +86,19 @@ fn with_end_of(bytes: &[u8], output: Vec<u8>) -> Vec<u8>
 /// Reports each error. The status is that of [`print_documents`].
 ///
 /// ```
-/// use json_files::{Document, EditAll, Job, edit_document};
+/// use json_files::{NamedDocument, EditAll, Job, edit_document};
 /// use json_text::{Rules, VecSink};
 /// use json_value::{Edit, Path, Value};
 /// let edits = [Edit::Push { path: Path::new(alloc), value: Value::new_bool(true) }];
 /// let change = EditAll::new(&edits).ok_or("too many edits")?;
-/// let document = Document::new(alloc, "a.json", b"[\n\t1\n]\n")?;
+/// let document = NamedDocument::new(alloc, "a.json", b"[\n\t1\n]\n")?;
 /// let job = Job::new(change, None, Rules::usual());
 /// let edited = edit_document(alloc, &document, &job, &mut VecSink::new(alloc));
 /// assert_eq!(rt; edited.text.as_slice(), b"[\n\t1,\n\ttrue\n]\n".as_slice());
 /// ```
-pub fn edit_document<C: Change + Copy, E: Sink>(
+pub fn edit_document<C: ValueChange + Copy, E: Sink>(
     alloc: Global,
-    document: &Document,
+    document: &NamedDocument,
     job: &Job<'_, C>,
     errs: &mut E,
 ) -> EditedText

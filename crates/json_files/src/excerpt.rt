@@ -4,7 +4,7 @@ ghost use Rattle.std.specs.List.{after_last, before_first, flat_map};
 ghost use Rattle.json_files.specs.Excerpts.{IsExcerpt, IsFront, IsBack, excerpt_byte, is_continuation as continues, space_under};
 ghost use Rattle.json_io.specs.Errors.{OnlyNoMemory};
 
-use json_text::Result;
+use json_io::Result;
 
 // The greatest number of bytes of a line that are shown.
 const WIDTH: usize = 76;
@@ -31,7 +31,7 @@ fn last_line(bytes: &[u8]) -> &[u8]
 }
 
 // Returns the bytes before the first newline.
-fn first_line(bytes: &[u8]) -> &[u8]
+fn excerpt_line(bytes: &[u8]) -> &[u8]
     ensures { result.now ≡ before_first (λ x. x == 10) bytes.now }
 {
     let mut end = 0;
@@ -123,7 +123,7 @@ pub(crate) fn push_excerpt(text: &mut Vec<u8>, bytes: &[u8], offset: usize) -> R
 {
     let (head, tail) = bytes.split_at(offset);
     let line_before = last_line(head);
-    let line_after = first_line(tail);
+    let line_after = excerpt_line(tail);
     let after = first_bytes(line_after, WIDTH - line_before.len().min(HALF));
     let before = last_bytes(line_before, WIDTH - after.len());
     push_lines(text, before, after)

@@ -4,8 +4,8 @@ ghost use Rattle.std.specs.List.{take_while};
 ghost use Rattle.json_files.specs.FoundLayouts.{is_whitespace, after_whitespace, gap_before_first, gap_after_bracket, after_newline, found_indent, ends_line as line_ends, IsFoundStyle};
 ghost use Rattle.json_grammar.specs.Grammar.{ws};
 
-use json_print::Style;
-use json_text::ws_run;
+use json_layout::Style;
+use json_scan::ws_run;
 use memchr::memrchr;
 
 // Returns the whitespace that the bytes begin with, and the bytes after it.

@@ -9,7 +9,7 @@ ghost use Rattle.json_value.specs.Edits.{path_steps};
 ghost use Rattle.json_value.specs.Seen.{seen};
 ghost use Rattle.json_value.specs.Steps.{tree_at};
 
-use crate::change::Change;
+use crate::change::ValueChange;
 use crate::change_error::{ChangeCode, ChangeError};
 use json_patch::Pointer;
 use json_value::{Path, Value, View};
@@ -19,7 +19,7 @@ use std::alloc::Global;
 /// the pointer references nothing.
 ///
 /// ```
-/// use json_files::{Change, ChangeCode, GetPointer};
+/// use json_files::{ValueChange, ChangeCode, GetPointer};
 /// use json_patch::Pointer;
 /// use json_value::Value;
 /// let pointer = Pointer::parse(alloc, "/0")?;
@@ -40,7 +40,7 @@ pub struct GetPointer<'a> {
 /// nowhere.
 ///
 /// ```
-/// use json_files::{Change, GetPath};
+/// use json_files::{ValueChange, GetPath};
 /// use json_value::{Path, PointerNode, Value};
 /// let mut path = Path::new(alloc);
 /// path.push(PointerNode::Index(0))?;
@@ -75,7 +75,7 @@ fn value_found(alloc: Global, found: Option<View<'_>>) -> Result<Value, ChangeEr
     }
 }
 
-impl<'a> Change for GetPointer<'a> {
+impl<'a> ValueChange for GetPointer<'a> {
     ghost changed = { λ change tree.
         ok_or (result_ok (value_at_pointer (pointer_tokens change.pointer.now) tree)) not_there };
 
@@ -95,7 +95,7 @@ impl<'a> Change for GetPointer<'a> {
     }
 }
 
-impl<'a> Change for GetPath<'a> {
+impl<'a> ValueChange for GetPath<'a> {
     ghost changed = { λ change tree. ok_or (tree_at (path_steps change.path.now) tree) not_there };
 
     fn apply(&self, alloc: Global, value: &mut Value) -> Result<(), ChangeError> {

@@ -3,8 +3,8 @@ ghost use Rattle.std.specs.Prelude.{◌≡◌, true, IfSome, option_map};
 ghost use Rattle.json_files.specs.Sentences.{is_hint, HintFits};
 
 use crate::document_error::DocumentError;
-use crate::part::{Part, Scope};
-use json_text::{Error, ErrorCode};
+use crate::part::{DocumentPart, Scope};
+use json_io::{Error, ErrorCode};
 
 // Returns whether the last byte before the offset that is no whitespace is a comma.
 fn follows_comma(bytes: &[u8], offset: usize) -> bool {
@@ -70,7 +70,7 @@ fn hint_at_byte(code: ErrorCode, byte: u8) -> Option<&'static str>
 }
 
 // Returns a hint at an error at an offset of the bytes.
-fn hint_at(part: Part<'_>, code: ErrorCode, offset: usize) -> Option<&'static str>
+fn hint_at(part: DocumentPart<'_>, code: ErrorCode, offset: usize) -> Option<&'static str>
     ensures { IfSome result (λ h. is_hint h.now ≡ true) }
 {
     let byte = *part.bytes.get(offset)?;
@@ -90,7 +90,7 @@ fn hint_at(part: Part<'_>, code: ErrorCode, offset: usize) -> Option<&'static st
 }
 
 // Returns a hint at the usual cause of an error of an input.
-fn hint_of_input(part: Part<'_>, error: &Error) -> Option<&'static str>
+fn hint_of_input(part: DocumentPart<'_>, error: &Error) -> Option<&'static str>
     ensures { IfSome result (λ h. is_hint h.now ≡ true) }
 {
     let offset = error.offset()?;
@@ -104,7 +104,7 @@ fn hint_of_input(part: Part<'_>, error: &Error) -> Option<&'static str>
 }
 
 /// Returns a hint at the usual cause of the error, if there is one.
-pub(crate) fn hint_of(part: Part<'_>, error: &DocumentError) -> Option<&'static str>
+pub(crate) fn hint_of(part: DocumentPart<'_>, error: &DocumentError) -> Option<&'static str>
     ensures { HintFits error.now (option_map (λ s. s.now) result) }
 {
     match error {

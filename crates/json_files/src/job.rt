@@ -2,21 +2,22 @@
 ghost use Rattle.std.specs.Prelude.{◌≡◌, false, IfOk, IfErr};
 ghost use Rattle.json_command.specs.Printing.{Prints, ReturnsWriteError};
 ghost use Rattle.json_doc.specs.Docs.{doc_root, doc_tree};
-ghost use Rattle.json_files.specs.Outcomes.{task_of, line_in, text_in};
+ghost use Rattle.json_files.specs.Outcomes.{task_of, line_in, printed_or_string};
 ghost use Rattle.json_io.specs.Errors.{OnlyNoMemory};
 ghost use Rattle.json_files.specs.Running.{IsMade, PrintsTree, PrintingStops, PrintsBytes, BytesStop};
 ghost use Rattle.json_files.specs.Writing.{WritesOutput};
 ghost use Rattle.json_files.specs.declared.job.InputForm.TheVariants.{One};
 ghost use Rattle.json_value.specs.Denotes.{tree_of};
 
-use crate::change::Change;
+use crate::change::ValueChange;
 use crate::change_error::{ChangeCode, ChangeError};
 use crate::document::read_bytes;
 use crate::document_error::DocumentError;
 use json_command::{print_value, write_text};
 use json_doc::Doc;
-use json_print::Style;
-use json_text::{Error, ErrorCode, Place, Result, Rules, Sink};
+use json_io::{Error, ErrorCode, Place, Result, Sink};
+use json_layout::Style;
+use json_text::Rules;
 use json_value::Value;
 use std::alloc::Global;
 use std::rc::Rc;
@@ -91,7 +92,7 @@ const OUT_OF_MEMORY: Error = Error {
 };
 
 // Prints the text of the value, or the content of a string.
-fn print_text<K: Sink>(
+fn print_document<K: Sink>(
     alloc: Global,
     value: &Value,
     style: Style<'_>,
@@ -99,7 +100,7 @@ fn print_text<K: Sink>(
     sink: &mut K,
 ) -> Result<()>
     ensures { Prints (K.state sink.old) (K.state sink.new)
-        (text_in raw style.entry (tree_of value.now)) result }
+        (printed_or_string raw style.entry (tree_of value.now)) result }
 {
     if raw {
         if let Some(content) = value.view().text() {
@@ -123,14 +124,14 @@ fn write_line<K: Sink>(
     let Some(style) = style else {
         return Ok(());
     };
-    match print_text(alloc, value, style, raw, sink) {
+    match print_document(alloc, value, style, raw, sink) {
         Ok(()) => write_text(sink, b"\n"),
         Err(error) => Err(error),
     }
 }
 
 // Changes the value of a document. Returns the changed value, or why the change does not apply.
-fn changed_value<C: Change>(
+fn changed_value<C: ValueChange>(
     alloc: Global,
     doc: &Rc<Doc>,
     change: &C,
@@ -151,7 +152,7 @@ fn changed_value<C: Change>(
 
 /// Changes the value of a document and prints its line, or returns why the change does not apply.
 /// Fails with `Io` at `Writing` if the sink fails, and with `NoMemory` if memory runs out.
-pub(crate) fn print_changed<C: Change, K: Sink>(
+pub(crate) fn print_changed<C: ValueChange, K: Sink>(
     alloc: Global,
     doc: &Rc<Doc>,
     job: &Job<'_, C>,
@@ -161,7 +162,7 @@ pub(crate) fn print_changed<C: Change, K: Sink>(
         (doc_tree doc.now.value (doc_root doc.now.value)) (K.state sink.old) (K.state sink.new)) }
     ensures err { IfErr result (PrintingStops (task_of C.changed job.now)
         (doc_tree doc.now.value (doc_root doc.now.value)) (K.state sink.old) (K.state sink.new)) }
-    ensures told { ReturnsWriteError (K.state sink.old) (K.state sink.new) result }
+    ensures reported { ReturnsWriteError (K.state sink.old) (K.state sink.new) result }
 {
     let value = match changed_value(alloc, doc, &job.change) {
         Ok(Ok(value)) => value,
@@ -177,7 +178,7 @@ pub(crate) fn print_changed<C: Change, K: Sink>(
 /// Reads the document of the bytes, changes its value and prints its line, or returns the error
 /// that the bytes have. Fails with `Io` at `Writing` if the sink fails, and with `NoMemory` if
 /// memory runs out.
-pub(crate) fn print_bytes<C: Change, K: Sink>(
+pub(crate) fn print_bytes<C: ValueChange, K: Sink>(
     alloc: Global,
     bytes: &[u8],
     job: &Job<'_, C>,
@@ -187,7 +188,7 @@ pub(crate) fn print_bytes<C: Change, K: Sink>(
         (K.state sink.old) (K.state sink.new)) }
     ensures err { IfErr result (BytesStop (task_of C.changed job.now) bytes.now
         (K.state sink.old) (K.state sink.new)) }
-    ensures told { ReturnsWriteError (K.state sink.old) (K.state sink.new) result }
+    ensures reported { ReturnsWriteError (K.state sink.old) (K.state sink.new) result }
 {
     let doc = match read_bytes(alloc, bytes, job.rules) {
         Ok(doc) => doc,

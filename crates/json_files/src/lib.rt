@@ -2,13 +2,13 @@
 //! each with a newline after it, and the errors of those that are not valid are reported.
 //!
 //! ```
-//! use json_files::{Document, Job, Unchanged, print_documents};
+//! use json_files::{NamedDocument, Job, Unchanged, print_documents};
 //! use json_print::Style;
 //! use json_text::{Rules, VecSink};
 //! let documents = vec![in alloc;
-//!     Document::new(alloc, "a.json", b" [1, 2.50] ")?,
-//!     Document::new(alloc, "b.json", b"[1,\n 01]")?,
-//!     Document::new(alloc, "c.json", b"{}")?,
+//!     NamedDocument::new(alloc, "a.json", b" [1, 2.50] ")?,
+//!     NamedDocument::new(alloc, "b.json", b"[1,\n 01]")?,
+//!     NamedDocument::new(alloc, "c.json", b"{}")?,
 //! ]?;
 //! let job = Job::new(Unchanged, Style::new(None, false), Rules::usual());
 //! let (mut sink, mut errs) = (VecSink::new(alloc), VecSink::new(alloc));
@@ -35,9 +35,9 @@ mod report;
 mod run;
 mod value_stream;
 
-pub use change::{Change, Unchanged};
+pub use change::{Unchanged, ValueChange};
 pub use change_error::{ChangeCode, ChangeError};
-pub use document::Document;
+pub use document::NamedDocument;
 pub use document_error::DocumentError;
 pub use edit_all::EditAll;
 pub use edit_at::EditAt;

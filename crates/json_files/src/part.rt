@@ -3,7 +3,7 @@ ghost use Rattle.std.specs.Prelude.{◌≡◌, ◌<◌, ◌≤◌, ◌+◌, ◌�
 ghost use Rattle.json_files.specs.Parts.{part_view, lines_of, whole_part as spec_whole_part};
 ghost use Rattle.json_command.specs.Input.{BlankTest};
 
-use json_text::ws_run;
+use json_scan::ws_run;
 use memchr::memchr;
 
 /// What the bytes of a part are.
@@ -19,7 +19,7 @@ pub(crate) enum Scope {
 
 /// A part of a document.
 #[derive(Clone, Copy)]
-pub(crate) struct Part<'a> {
+pub(crate) struct DocumentPart<'a> {
     /// The name of the document.
     pub name: &'a str,
     /// The bytes in which places are counted.
@@ -31,10 +31,10 @@ pub(crate) struct Part<'a> {
 }
 
 /// Returns the part that is a whole document.
-pub(crate) fn whole_part<'a>(name: &'a str, bytes: &'a [u8]) -> Part<'a>
+pub(crate) fn whole_part<'a>(name: &'a str, bytes: &'a [u8]) -> DocumentPart<'a>
     ensures { part_view result ≡ spec_whole_part name.now bytes.now }
 {
-    Part {
+    DocumentPart {
         name,
         bytes,
         before: 0,

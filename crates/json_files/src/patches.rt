@@ -9,7 +9,7 @@ ghost use Rattle.json_patch.specs.Merge.{merge_patched};
 ghost use Rattle.json_patch.specs.Patch.{PatchFailure, patched};
 ghost use Rattle.json_value.specs.Seen.{seen};
 
-use crate::change::Change;
+use crate::change::ValueChange;
 use crate::change_error::{ChangeCode, ChangeError};
 use json_patch::{PatchCode, PatchError, apply_merge, apply_patch};
 use json_value::{Value, View};
@@ -19,7 +19,7 @@ use std::alloc::Global;
 ///
 /// ```
 /// use json_doc::read_document;
-/// use json_files::{ApplyPatch, Change};
+/// use json_files::{ApplyPatch, ValueChange};
 /// use json_value::{Value, View};
 /// let patch = read_document(alloc, "[{\"op\": \"replace\", \"path\": \"\", \"value\": 1}]")?;
 /// let change = ApplyPatch::new(View::packed(patch.view())).ok_or("too many operations")?;
@@ -37,7 +37,7 @@ pub struct ApplyPatch<'a> {
 ///
 /// ```
 /// use json_doc::read_document;
-/// use json_files::{ApplyMerge, Change};
+/// use json_files::{ApplyMerge, ValueChange};
 /// use json_value::{Value, View};
 /// let patch = read_document(alloc, "{\"a\": 1}")?;
 /// let change = ApplyMerge::new(View::packed(patch.view()));
@@ -118,7 +118,7 @@ fn change_error(error: PatchError) -> ChangeError
     }
 }
 
-impl<'a> Change for ApplyPatch<'a> {
+impl<'a> ValueChange for ApplyPatch<'a> {
     ghost use Rattle.json_files.specs.Patches.{patch_tree};
 
     ghost changed = { λ change tree. outcome_of_patch (patched tree (patch_tree change)) };
@@ -135,7 +135,7 @@ impl<'a> Change for ApplyPatch<'a> {
     }
 }
 
-impl<'a> Change for ApplyMerge<'a> {
+impl<'a> ValueChange for ApplyMerge<'a> {
     ghost use Rattle.json_files.specs.Patches.{merge_tree};
 
     ghost changed = { λ change tree. Ok (merge_patched tree (merge_tree change)) };

@@ -3,16 +3,16 @@ ghost use Rattle.std.specs.Prelude.{◌≡◌, ◌≤◌, ◌+◌, ◌++◌, Lis
 ghost use Rattle.json_files.specs.Excerpts.{IsExcerpt};
 ghost use Rattle.json_files.specs.Parts.{part_view, HasFewLines};
 ghost use Rattle.json_files.specs.Reports.{IsReport, IsHeadline, IsExcerptAt, location, error_place, document_error_name, change_name, report_offset, position_of};
-ghost use Rattle.json_files.specs.Sentences.{input_sentence, is_word, document_sentence, counted, value_number as number_of, hint_line};
+ghost use Rattle.json_files.specs.Sentences.{input_sentence, is_lower_case, document_sentence, counted_word, scope_number as number_of, hint_line};
 ghost use Rattle.json_io.specs.Errors.{name_of, OnlyNoMemory};
 
 use crate::change_error::ChangeError;
 use crate::document_error::DocumentError;
 use crate::excerpt::push_excerpt;
 use crate::hint::hint_of;
-use crate::part::{Part, Scope};
+use crate::part::{DocumentPart, Scope};
 use itoa::Buffer;
-use json_text::{Error, ErrorCode, FaultText, Place, Result, fault_text, place_of};
+use json_io::{Error, ErrorCode, FaultText, Place, Result, fault_text, place_of};
 use std::alloc::Global;
 
 // A line and a column, counted from 1.
@@ -56,7 +56,7 @@ fn sentence_of(code: ErrorCode) -> &'static str
 }
 
 // Appends a number in decimal.
-fn push_number(text: &mut Vec<u8>, n: usize) -> Result<()>
+fn push_count(text: &mut Vec<u8>, n: usize) -> Result<()>
     ensures ok { OnOk result (text.new.items ≡ text.old.items ++ decimal n) }
     ensures only { OnlyNoMemory result }
 {
@@ -73,9 +73,9 @@ fn push_position(text: &mut Vec<u8>, position: Option<Position>) -> Result<()>
     match position {
         Some(position) => {
             text.extend_from_slice(b":")?;
-            push_number(text, position.line)?;
+            push_count(text, position.line)?;
             text.extend_from_slice(b":")?;
-            push_number(text, position.column)?;
+            push_count(text, position.column)?;
             Ok(())
         }
         None => Ok(()),
@@ -138,14 +138,14 @@ fn input_headline(
 
 // Appends a word, a number and `: `, if there is a number.
 fn push_counted(text: &mut Vec<u8>, word: &str, number: Option<usize>) -> Result<()>
-    ensures ok { OnOk result (text.new.items ≡ text.old.items ++ counted word.now number) }
+    ensures ok { OnOk result (text.new.items ≡ text.old.items ++ counted_word word.now number) }
     ensures only { OnlyNoMemory result }
 {
     match number {
         Some(number) => {
             text.extend_from_slice(word.as_bytes())?;
             text.extend_from_slice(b" ")?;
-            push_number(text, number)?;
+            push_count(text, number)?;
             text.extend_from_slice(b": ")?;
             Ok(())
         }
@@ -154,7 +154,7 @@ fn push_counted(text: &mut Vec<u8>, word: &str, number: Option<usize>) -> Result
 }
 
 // Returns the number of the value of a stream.
-fn value_number(scope: Scope) -> Option<usize>
+fn scope_number(scope: Scope) -> Option<usize>
     ensures { result ≡ number_of scope }
 {
     match scope {
@@ -186,7 +186,7 @@ fn change_sentence(
     ensures only { OnlyNoMemory result }
 {
     let mut text = Vec::new(alloc);
-    push_counted(&mut text, "value", value_number(scope))?;
+    push_counted(&mut text, "value", scope_number(scope))?;
     push_counted(&mut text, part_name, part_number(error))?;
     text.extend_from_slice(error.code.sentence().as_bytes())?;
     Ok(text)
@@ -220,7 +220,7 @@ fn find_offset(bytes: &[u8], place: Place) -> Option<usize>
 
 // Returns the line and the column of an offset.
 #[tactic(auto, unfolding(json_io::specs::Positions::place_at))]
-fn find_position(part: Part<'_>, offset: Option<usize>) -> Option<Position>
+fn find_position(part: DocumentPart<'_>, offset: Option<usize>) -> Option<Position>
     requires few { HasFewLines (part_view part) }
     requires within { IfSome offset (λ offset. offset ≤ length (part_view part).bytes) }
     ensures { result
@@ -271,7 +271,7 @@ fn push_hint(text: &mut Vec<u8>, hint: Option<&str>) -> Result<()>
 // Returns the first line of the report of a document.
 fn document_headline(
     alloc: Global,
-    part: Part<'_>,
+    part: DocumentPart<'_>,
     position: Option<Position>,
     error: &DocumentError,
     part_name: &str,
@@ -295,12 +295,12 @@ fn document_headline(
 /// Fails with `NoMemory` if memory runs out.
 pub(crate) fn document_report(
     alloc: Global,
-    part: Part<'_>,
+    part: DocumentPart<'_>,
     error: &DocumentError,
     part_name: &str,
 ) -> Result<Vec<u8>>
     requires few { HasFewLines (part_view part) }
-    requires word { is_word part_name.now ≡ true }
+    requires word { is_lower_case part_name.now ≡ true }
     ensures ok { IfOk result (λ report. IsReport (part_view part.entry) error.now report.items) }
     ensures only { OnlyNoMemory result }
 {

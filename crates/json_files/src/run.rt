@@ -9,15 +9,16 @@ ghost use Rattle.json_io.specs.FaultText.{text_of};
 ghost use Rattle.json_files.specs.Parts.{HasFewLines};
 ghost use Rattle.json_command.specs.Statuses.{ReturnsWriteStatus};
 
-use crate::change::Change;
-use crate::document::Document;
+use crate::change::ValueChange;
+use crate::document::NamedDocument;
 use crate::document_error::DocumentError;
 use crate::job::{InputForm, Job, print_bytes, print_changed};
-use crate::part::{Part, Scope, is_blank, split_line, whole_part};
+use crate::part::{DocumentPart, Scope, is_blank, split_line, whole_part};
 use crate::report::document_report;
-use crate::value_stream::{StreamPlace, read_value_at, text_of, value_part};
+use crate::value_stream::{StreamPlace, document_text, read_value_at, value_part};
 use json_command::{Status, report};
-use json_text::{Error, ErrorCode, Place, Result, Sink, put_all, ws_run};
+use json_io::{Error, ErrorCode, Place, Result, Sink, put_all};
+use json_scan::ws_run;
 use std::alloc::Global;
 
 // The error of a document that could not be read.
@@ -28,7 +29,7 @@ const READING_FAILED: DocumentError = DocumentError::Input(Error {
 
 // The state of a run.
 #[derive(Drop)]
-pub(crate) struct Tally {
+pub(crate) struct DocumentTally {
     // the allocator
     pub(crate) alloc: Global,
     // the greatest status so far
@@ -37,7 +38,7 @@ pub(crate) struct Tally {
     pub(crate) muted: bool,
 }
 
-impl Tally {
+impl DocumentTally {
     ghost use Rattle.json_files.specs.Documents.{BytesHave, DocumentHas};
     ghost use Rattle.json_files.specs.Outcomes.{HasPartOutcome, LineOutcome, PartsHave, document_error_status};
     ghost use Rattle.json_files.specs.Streams.{IsNextPlace, ValueFails, StreamHas, ValueHas, ValuesHave, stream_value_place};
@@ -45,7 +46,7 @@ impl Tally {
     ghost use Rattle.std.specs.Str.{IsCharBoundary};
     ghost use Rattle.json_files.specs.Parts.{part_view, line_parts, lines_of, whole_part as spec_whole_part};
     ghost use Rattle.json_files.specs.Running.{ReportsError, ReportingFails};
-    ghost use Rattle.json_files.specs.Sentences.{is_word};
+    ghost use Rattle.json_files.specs.Sentences.{is_lower_case};
 
     // Reports an error, unless a report failed.
     fn put_report<E: Sink>(&mut self, errs: &mut E, error: &DocumentError, text: &[u8])
@@ -66,13 +67,13 @@ impl Tally {
     // Reports the error of a part of a document.
     fn report_error<E: Sink>(
         &mut self,
-        part: Part<'_>,
+        part: DocumentPart<'_>,
         error: &DocumentError,
         part_name: &str,
         errs: &mut E,
     ) -> Result<()>
         requires few { HasFewLines (part_view part) }
-        requires word { is_word part_name.now ≡ true }
+        requires word { is_lower_case part_name.now ≡ true }
         ensures ok { OnOk result (ReportsError (part_view part.entry) error.now self.old self.new
             (E.state errs.old) (E.state errs.new)) }
         ensures err { IfErr result (ReportingFails self.old self.new
@@ -88,9 +89,9 @@ impl Tally {
     }
 
     // Prints a part of a document or reports its error.
-    fn handle_part<C: Change, K: Sink, E: Sink>(
+    fn handle_part<C: ValueChange, K: Sink, E: Sink>(
         &mut self,
-        part: Part<'_>,
+        part: DocumentPart<'_>,
         job: &Job<'_, C>,
         sink: &mut K,
         errs: &mut E,
@@ -106,7 +107,7 @@ impl Tally {
             (part_view part.entry ∷ []))
             self.old self.new
             (K.state sink.old) (K.state sink.new) (E.state errs.old) (E.state errs.new)) }
-        ensures told { ReturnsWriteError (K.state sink.old) (K.state sink.new) result }
+        ensures reported { ReturnsWriteError (K.state sink.old) (K.state sink.new) result }
     {
         match print_bytes(self.alloc, part.bytes, job, sink) {
             Ok(None) => Ok(()),
@@ -116,9 +117,9 @@ impl Tally {
     }
 
     // Prints each line of a document or reports its error. Skips lines that have only whitespace.
-    fn handle_lines<C: Change, K: Sink, E: Sink>(
+    fn handle_lines<C: ValueChange, K: Sink, E: Sink>(
         &mut self,
-        whole: Part<'_>,
+        whole: DocumentPart<'_>,
         job: &Job<'_, C>,
         sink: &mut K,
         errs: &mut E,
@@ -133,13 +134,13 @@ impl Tally {
             (line_parts (part_view whole.entry).name 0 (lines_of (part_view whole.entry).bytes)))
             self.old self.new
             (K.state sink.old) (K.state sink.new) (E.state errs.old) (E.state errs.new)) }
-        ensures told { ReturnsWriteError (K.state sink.old) (K.state sink.new) result }
+        ensures reported { ReturnsWriteError (K.state sink.old) (K.state sink.new) result }
     {
         let mut number = 0;
         let mut rest = whole.bytes;
         'lines: while !rest.is_empty() {
             let (line, later) = split_line(rest);
-            let part = Part {
+            let part = DocumentPart {
                 name: whole.name,
                 bytes: line,
                 before: number,
@@ -159,7 +160,12 @@ impl Tally {
     }
 
     // Reports that no value can be read, unless memory ran out.
-    fn handle_fault<E: Sink>(&mut self, whole: Part<'_>, error: Error, errs: &mut E) -> Result<()>
+    fn handle_fault<E: Sink>(
+        &mut self,
+        whole: DocumentPart<'_>,
+        error: Error,
+        errs: &mut E,
+    ) -> Result<()>
         requires few { (part_view whole).before + length (part_view whole).bytes + 1 < 2 ^ 64 }
         ensures fault { OnOk result ((b : List ℕ) (i : ℕ) → ValueFails b i error.code error.place
             → ValueFaultFrom false 254 i b error.code error.place) }
@@ -176,7 +182,7 @@ impl Tally {
 
     // Prints the value at a place of a text or reports its error. Returns the offset after the
     // value; `None` if no value can be read.
-    fn handle_value<C: Change, K: Sink, E: Sink>(
+    fn handle_value<C: ValueChange, K: Sink, E: Sink>(
         &mut self,
         place: StreamPlace<'_>,
         job: &Job<'_, C>,
@@ -196,7 +202,7 @@ impl Tally {
             (stream_value_place place.entry).offset
             (stream_value_place place.entry).number) self.old self.new
             (K.state sink.old) (K.state sink.new) (E.state errs.old) (E.state errs.new)) }
-        ensures told { ReturnsWriteError (K.state sink.old) (K.state sink.new) result }
+        ensures reported { ReturnsWriteError (K.state sink.old) (K.state sink.new) result }
     {
         let whole = whole_part(place.name, place.text.as_bytes());
         let (doc, next) = match read_value_at(self.alloc, place.text, place.offset) {
@@ -219,7 +225,7 @@ impl Tally {
     }
 
     // Prints each value of a text or reports its error, up to where no value can be read.
-    fn handle_text<C: Change, K: Sink, E: Sink>(
+    fn handle_text<C: ValueChange, K: Sink, E: Sink>(
         &mut self,
         start: StreamPlace<'_>,
         job: &Job<'_, C>,
@@ -235,7 +241,7 @@ impl Tally {
             (StreamHas (task_of C.changed job.now) (stream_value_place start.entry).name
             (stream_value_place start.entry).text false 0 0) self.old self.new
             (K.state sink.old) (K.state sink.new) (E.state errs.old) (E.state errs.new)) }
-        ensures told { ReturnsWriteError (K.state sink.old) (K.state sink.new) result }
+        ensures reported { ReturnsWriteError (K.state sink.old) (K.state sink.new) result }
     {
         let text = start.text;
         let mut offset = 0;
@@ -260,9 +266,9 @@ impl Tally {
     }
 
     // Prints each value of a document or reports its error.
-    fn handle_values<C: Change, K: Sink, E: Sink>(
+    fn handle_values<C: ValueChange, K: Sink, E: Sink>(
         &mut self,
-        whole: Part<'_>,
+        whole: DocumentPart<'_>,
         job: &Job<'_, C>,
         sink: &mut K,
         errs: &mut E,
@@ -275,9 +281,9 @@ impl Tally {
         ensures err { IfErr result (StopsRunning (ValuesHave false (task_of C.changed job.now)
             (part_view whole.entry).name (part_view whole.entry).bytes) self.old self.new
             (K.state sink.old) (K.state sink.new) (E.state errs.old) (E.state errs.new)) }
-        ensures told { ReturnsWriteError (K.state sink.old) (K.state sink.new) result }
+        ensures reported { ReturnsWriteError (K.state sink.old) (K.state sink.new) result }
     {
-        match text_of(whole.bytes) {
+        match document_text(whole.bytes) {
             Ok(text) => {
                 let start = StreamPlace {
                     name: whole.name,
@@ -292,9 +298,9 @@ impl Tally {
     }
 
     // Prints what the bytes of a document have or reports their errors.
-    fn handle_bytes<C: Change, K: Sink, E: Sink>(
+    fn handle_bytes<C: ValueChange, K: Sink, E: Sink>(
         &mut self,
-        whole: Part<'_>,
+        whole: DocumentPart<'_>,
         job: &Job<'_, C>,
         sink: &mut K,
         errs: &mut E,
@@ -309,7 +315,7 @@ impl Tally {
             (part_view whole.entry).name (Some (part_view whole.entry).bytes) job.now.input)
             self.old self.new
             (K.state sink.old) (K.state sink.new) (E.state errs.old) (E.state errs.new)) }
-        ensures told { ReturnsWriteError (K.state sink.old) (K.state sink.new) result }
+        ensures reported { ReturnsWriteError (K.state sink.old) (K.state sink.new) result }
     {
         match job.input {
             InputForm::One => self.handle_part(whole, job, sink, errs),
@@ -319,9 +325,9 @@ impl Tally {
     }
 
     // Prints what a document has or reports its errors.
-    fn handle_document<C: Change, K: Sink, E: Sink>(
+    fn handle_document<C: ValueChange, K: Sink, E: Sink>(
         &mut self,
-        document: &Document,
+        document: &NamedDocument,
         job: &Job<'_, C>,
         sink: &mut K,
         errs: &mut E,
@@ -332,7 +338,7 @@ impl Tally {
         ensures err { IfErr result (StopsRunning
             (DocumentHas false (task_of C.changed job.now) document.now) self.old self.new
             (K.state sink.old) (K.state sink.new) (E.state errs.old) (E.state errs.new)) }
-        ensures told { ReturnsWriteError (K.state sink.old) (K.state sink.new) result }
+        ensures reported { ReturnsWriteError (K.state sink.old) (K.state sink.new) result }
     {
         let name = document.name.as_str();
         match &document.bytes {
@@ -343,12 +349,12 @@ impl Tally {
 }
 
 // Prints each document or reports its error.
-fn print_each<C: Change, K: Sink, E: Sink>(
-    documents: &[Document],
+fn print_each<C: ValueChange, K: Sink, E: Sink>(
+    documents: &[NamedDocument],
     job: &Job<'_, C>,
     sink: &mut K,
     errs: &mut E,
-    tally: &mut Tally,
+    tally: &mut DocumentTally,
 ) -> Result<()>
     ensures ok { OnOk result (Handles
         (DocumentsHave true (task_of C.changed job.now) documents.now) tally.old tally.new
@@ -356,7 +362,7 @@ fn print_each<C: Change, K: Sink, E: Sink>(
     ensures err { IfErr result (StopsRunning
         (DocumentsHave false (task_of C.changed job.now) documents.now) tally.old tally.new
         (K.state sink.old) (K.state sink.new) (E.state errs.old) (E.state errs.new)) }
-    ensures told { ReturnsWriteError (K.state sink.old) (K.state sink.new) result }
+    ensures reported { ReturnsWriteError (K.state sink.old) (K.state sink.new) result }
 {
     for document in documents {
         match tally.handle_document(document, job, sink, errs) {
@@ -388,12 +394,12 @@ fn report_unless_muted<E: Sink>(errs: &mut E, muted: bool, error: &Error)
 /// reported.
 ///
 /// ```
-/// use json_files::{Document, Job, Unchanged, print_documents};
+/// use json_files::{NamedDocument, Job, Unchanged, print_documents};
 /// use json_print::Style;
 /// use json_text::{Rules, VecSink};
 /// let documents = vec![in alloc;
-///     Document::new(alloc, "a.json", b"[1 2]")?,
-///     Document::new(alloc, "b.json", b" { } ")?,
+///     NamedDocument::new(alloc, "a.json", b"[1 2]")?,
+///     NamedDocument::new(alloc, "b.json", b" { } ")?,
 /// ]?;
 /// let job = Job::new(Unchanged, Style::new(None, false), Rules::usual());
 /// let (mut sink, mut errs) = (VecSink::new(alloc), VecSink::new(alloc));
@@ -401,9 +407,9 @@ fn report_unless_muted<E: Sink>(errs: &mut E, muted: bool, error: &Error)
 /// assert_eq!(rt; sink.as_slice(), b"{}\n".as_slice());
 /// assert!(rt; errs.as_slice().starts_with(b"a.json:1:4: a comma or `]` is expected"));
 /// ```
-pub fn print_documents<C: Change, K: Sink, E: Sink>(
+pub fn print_documents<C: ValueChange, K: Sink, E: Sink>(
     alloc: Global,
-    documents: &[Document],
+    documents: &[NamedDocument],
     job: &Job<'_, C>,
     sink: &mut K,
     errs: &mut E,
@@ -413,9 +419,9 @@ pub fn print_documents<C: Change, K: Sink, E: Sink>(
     ensures failed { 5 ≤ result → PrintsSome (task_of C.changed job.now) documents.now
         (K.state sink.old) (K.state sink.new) (E.state errs.old) (E.state errs.new) result }
     ensures known { (result < 5) ⊎ (result ≡ 5) ⊎ (result ≡ 6) }
-    ensures write_told { ReturnsWriteStatus (K.state sink.old) (K.state sink.new) result }
+    ensures write_error { ReturnsWriteStatus (K.state sink.old) (K.state sink.new) result }
 {
-    let mut tally = Tally {
+    let mut tally = DocumentTally {
         alloc,
         status: 0,
         muted: false,

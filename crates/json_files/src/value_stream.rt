@@ -7,9 +7,10 @@ ghost use Rattle.json_files.specs.Parts.{part_view, value_part as spec_value_par
 ghost use Rattle.json_files.specs.Streams.{ReadsAt, TextFault, ValueFails};
 
 use crate::document::MAX_BYTES;
-use crate::part::{Part, Scope, whole_part};
+use crate::part::{DocumentPart, Scope, whole_part};
 use json_doc::{Doc, read_front};
-use json_text::{Error, ErrorCode, Parser, Place, Result, check_utf8};
+use json_io::{Error, ErrorCode, Place, Result, check_utf8};
+use json_text::Parser;
 use std::alloc::Global;
 use std::rc::Rc;
 
@@ -28,7 +29,7 @@ pub(crate) struct StreamPlace<'a> {
 
 /// Returns the text that the bytes are. Fails with `TooLarge` past 4,294,967,295 bytes, and with
 /// `InvalidUTF8` at the first byte that is not UTF-8.
-pub(crate) fn text_of(bytes: &[u8]) -> Result<&str>
+pub(crate) fn document_text(bytes: &[u8]) -> Result<&str>
     ensures ok { IfOk result (λ text. text.now ≡ bytes.now) }
     ensures utf8 { IfOk result (λ text. IsUtf8 bytes.now) }
     ensures few { IfOk result (λ text. length bytes.now ≤ max_bytes) }
@@ -60,11 +61,11 @@ pub(crate) fn read_value_at(alloc: Global, text: &str, offset: usize) -> Result<
 }
 
 /// Returns the part that is the value at a place.
-pub(crate) fn value_part(place: StreamPlace<'_>) -> Part<'_>
+pub(crate) fn value_part(place: StreamPlace<'_>) -> DocumentPart<'_>
     ensures { part_view result
         ≡ spec_value_part place.entry.name.now place.entry.text.now place.entry.number }
 {
-    Part {
+    DocumentPart {
         scope: Scope::Value(place.number),
         ..whole_part(place.name, place.text.as_bytes())
     }

@@ -3,7 +3,7 @@ use Rattle.std.proofs.Common.{false, ◌≡◌, ℕ, ◌<◌, ◌≤◌, List, [
 use Rattle.std.specs.Char.{encode_utf8}
 use Rattle.std.specs.List.{Contains}
 use Rattle.json_grammar.specs.declared.Kind.TheVariants.{Array as array, Object as object}
-use Rattle.json_grammar.specs.declared.Spot.TheVariants.{First as first, Key as key, KeyOrEnd as key_or_end, Colon as colon, Done as done}
+use Rattle.json_grammar.specs.declared.ExpectedPart.TheVariants.{First as first, Key as key, KeyOrEnd as key_or_end, Colon as colon, Done as done}
 use Rattle.json_grammar.specs.Tree.{num, pairs, list_pairs, num_token, begin, key_token}
 use Rattle.json_grammar.specs.Grammar.{hex4, Spelling, unicode_escape, none, more, string, is_text}
 use Rattle.json_grammar.specs.Place.{takes_at_value, takes_first, takes_key, takes_key_or_end, end_done, reading}

@@ -2,7 +2,7 @@
 use Rattle.std.proofs.Common.{Bool, true, false, ◌≡◌, ◌≢◌, ℕ, ◌<◌, ◌≤◌, List, [], ◌∷◌, ◌++◌, length, ◌⊎◌, inl, inr, refl, sym, ap, ◌∙◌, subst, arith, append_assoc, append-nil, length-append}
 use Rattle.std.specs.List.{Contains}
 use Rattle.json_grammar.specs.declared.Kind.{Kind}
-use Rattle.json_grammar.specs.declared.Spot.{Spot}
+use Rattle.json_grammar.specs.declared.ExpectedPart.{ExpectedPart}
 use Rattle.json_grammar.specs.Tree.{Tree, null, boolean, num, text, Token, key_token, begin, end, tokens}
 use Rattle.json_grammar.specs.Grammar.{chars, string, value, is_text}
 use Rattle.json_grammar.specs.Place.{TakesKey, reading, read_value}
@@ -50,7 +50,7 @@ module _ (lossy : Bool) where
   more p q (k, h) = (k, repeated_more lossy p q k h)
 
   -- a name that repeats in the tokens repeats in the bytes
-  pub tokens_repeated : {p : List ℕ} {c : List Kind} {w : Spot} {ts : List Token}
+  pub tokens_repeated : {p : List ℕ} {c : List Kind} {w : ExpectedPart} {ts : List Token}
       → TokenSteps lossy p c w ts
       → TokensRepeat ts
       → SomeIn p
@@ -66,13 +66,13 @@ module _ (lossy : Bool) where
   ]
   tokens_repeated (by_colon {p = p} h) g = more p _ (tokens_repeated h g)
 
-  pub reading_repeats : {p : List ℕ} {c : List Kind} {w : Spot} {ts : List Token}
+  pub reading_repeats : {p : List ℕ} {c : List Kind} {w : ExpectedPart} {ts : List Token}
       → reading lossy p c w ts
       → TokensRepeat ts
       → SomeIn p
   reading_repeats h g = tokens_repeated (reading_steps lossy h) g
 
-  pub repeats_reading : {p : List ℕ} {c : List Kind} {w : Spot} {ts : List Token} (k : ℕ)
+  pub repeats_reading : {p : List ℕ} {c : List Kind} {w : ExpectedPart} {ts : List Token} (k : ℕ)
       → reading lossy p c w ts
       → repeated lossy p k
       → TokensRepeat ts
@@ -94,7 +94,7 @@ module _ (lossy : Bool) where
   -- ---- the first one
 
   -- the first one of a prefix is the first of all that goes on so
-  pub first_more : {c : List Kind} {w : Spot} {ts : List Token} (p q : List ℕ)
+  pub first_more : {c : List Kind} {w : ExpectedPart} {ts : List Token} (p q : List ℕ)
       → reading lossy p c w ts
       → FirstIn p
       → FirstIn (p ++ q)
@@ -105,7 +105,7 @@ module _ (lossy : Bool) where
       by j l (inr m) = let i = within p f.k f.at in omega arith
 
   -- what tells no name that its object has
-  silent : {c c' : List Kind} {w w' : Spot} {ts ts' : List Token} (p q : List ℕ)
+  silent : {c c' : List Kind} {w w' : ExpectedPart} {ts ts' : List Token} (p q : List ℕ)
       → reading lossy p c w ts
       → reading lossy (p ++ q) c' w' ts'
       → (TokensRepeat ts' → TokensRepeat ts)
@@ -114,7 +114,7 @@ module _ (lossy : Bool) where
   silent p q h h' f (inl n) = inl (λ j r. let g = reading_repeats h (f (repeats_reading j h' r)) in n g.0 g.1)
   silent p q h h' f (inr i) = inr (first_more p q h i)
 
-  name_on : {c : List Kind} {w : Spot} {ts : List Token} (p s v : List ℕ)
+  name_on : {c : List Kind} {w : ExpectedPart} {ts : List Token} (p s v : List ℕ)
       → reading lossy p c w ts
       → TakesKey w
       → string lossy s v
@@ -136,7 +136,7 @@ module _ (lossy : Bool) where
           at j a (before_it b) = o j (at_repeated lossy p j b)
           at j a (that_one e d f) = g d
 
-  search : {p : List ℕ} {c : List Kind} {w : Spot} {ts : List Token}
+  search : {p : List ℕ} {c : List Kind} {w : ExpectedPart} {ts : List Token}
       → TokenSteps lossy p c w ts
       → NoneIn p ⊎ FirstIn p
   search at_start = inl (λ j r. let i = within [] j r in omega arith)
@@ -148,7 +148,7 @@ module _ (lossy : Bool) where
   search (by_key {p = p} s v h n i) = name_on p s v (steps_reading lossy h) n i (search h)
   search (by_colon {p = p} h) = silent p _ (steps_reading lossy h) (steps_reading lossy (by_colon h)) (λ g. g) (search h)
 
-  pub search_place : {p : List ℕ} {c : List Kind} {w : Spot} {ts : List Token}
+  pub search_place : {p : List ℕ} {c : List Kind} {w : ExpectedPart} {ts : List Token}
       → reading lossy p c w ts
       → NoneIn p ⊎ FirstIn p
   search_place h = search (reading_steps lossy h)
@@ -156,7 +156,7 @@ module _ (lossy : Bool) where
   -- ---- within a token
 
   -- r is the beginning of r and z, which tell no name that its object has
-  part : {c c' : List Kind} {w w' : Spot} {ts ts' : List Token} (q r z : List ℕ)
+  part : {c c' : List Kind} {w w' : ExpectedPart} {ts ts' : List Token} (q r z : List ℕ)
       → reading lossy q c w ts
       → reading lossy (q ++ (r ++ z)) c' w' ts'
       → (TokensRepeat ts' → TokensRepeat ts)
@@ -165,7 +165,7 @@ module _ (lossy : Bool) where
   part q r z h h' f n j a = let g = reading_repeats h (f (repeats_reading j h' (subst (λ o. repeated lossy o j) (append_assoc q r z) (repeated_more lossy (q ++ r) z j a)))) in n g.0 g.1
 
   -- no name repeats that is not whole
-  name_part : {c : List Kind} {w : Spot} {ts : List Token} (q s r z : List ℕ)
+  name_part : {c : List Kind} {w : ExpectedPart} {ts : List Token} (q s r z : List ℕ)
       → reading lossy q c w ts
       → TakesKey w
       → string lossy s (r ++ z)
@@ -192,7 +192,7 @@ module _ (lossy : Bool) where
 
   behind : (q r p : List ℕ)
       → p ≡ q ++ r
-      → {c : List Kind} {w : Spot} {ts : List Token}
+      → {c : List Kind} {w : ExpectedPart} {ts : List Token}
       → reading lossy q c w ts
       → (NoneIn q → NoneIn (q ++ r))
       → NoneIn p ⊎ FirstIn p

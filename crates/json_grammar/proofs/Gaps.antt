@@ -5,8 +5,8 @@ use Rattle.json_grammar.specs.declared.Kind.{Kind}
 use Rattle.json_grammar.specs.declared.Kind.TheVariants.{Array as array, Object as object}
 use Rattle.json_grammar.specs.Tree.{Token}
 use Rattle.json_grammar.specs.Grammar.{IsWhitespace, ws, is_text}
-use Rattle.json_grammar.specs.declared.Spot.{Spot}
-use Rattle.json_grammar.specs.declared.Spot.TheVariants.{Value as at_value, First as first, Key as key, KeyOrEnd as key_or_end, Colon as colon, Done as done}
+use Rattle.json_grammar.specs.declared.ExpectedPart.{ExpectedPart}
+use Rattle.json_grammar.specs.declared.ExpectedPart.TheVariants.{Value as at_value, First as first, Key as key, KeyOrEnd as key_or_end, Colon as colon, Done as done}
 use Rattle.json_grammar.specs.Place.{viable_prefix, reading, after_comma, read_comma, read_colon}
 use Rattle.json_grammar.specs.Given.{piece, LastEnds, PrefixAt}
 use Rattle.json_grammar.specs.Needs.{IsGap}
@@ -43,10 +43,10 @@ value_not_done e = cc
 
 -- at some place after a mark
 abbrev pub Behind : Bool → List ℕ → List Token → Type 0
-Behind lossy p ts = (c : List Kind) × (w : Spot) × reading lossy p c w ts × (w ≡ done → ⊥)
+Behind lossy p ts = (c : List Kind) × (w : ExpectedPart) × reading lossy p c w ts × (w ≡ done → ⊥)
 
 module _ (lossy : Bool) where
-  behind_comma : {p : List ℕ} {ts : List Token} (w : Spot) (c : List Kind) (v : List ℕ) → reading lossy p c w ts → ws v → Allows w c 44 → Behind lossy (p ++ 44 ∷ v) ts
+  behind_comma : {p : List ℕ} {ts : List Token} (w : ExpectedPart) (c : List Kind) (v : List ℕ) → reading lossy p c w ts → ws v → Allows w c 44 → Behind lossy (p ++ 44 ∷ v) ts
   behind_comma at_value c v r s h = absurd (no_value 44 (inl refl) h)
   behind_comma first c v r s (inl h) = absurd (no_value 44 (inl refl) h)
   behind_comma first c v r s (inr h) = absurd (no_end c 44 (inl refl) h)
@@ -58,7 +58,7 @@ module _ (lossy : Bool) where
   behind_comma done (k ∷ c) v r s (inl h) = (k ∷ c, _, read_comma k r (44 ∷ [], v, refl, refl, s), comma_not_done k)
   behind_comma done c v r s (inr h) = absurd (no_end c 44 (inl refl) h)
 
-  behind_colon : {p : List ℕ} {ts : List Token} (w : Spot) (c : List Kind) (v : List ℕ) → reading lossy p c w ts → ws v → Allows w c 58 → Behind lossy (p ++ 58 ∷ v) ts
+  behind_colon : {p : List ℕ} {ts : List Token} (w : ExpectedPart) (c : List Kind) (v : List ℕ) → reading lossy p c w ts → ws v → Allows w c 58 → Behind lossy (p ++ 58 ∷ v) ts
   behind_colon at_value c v r s h = absurd (no_value 58 (inr refl) h)
   behind_colon first c v r s (inl h) = absurd (no_value 58 (inr refl) h)
   behind_colon first c v r s (inr h) = absurd (no_end c 58 (inr refl) h)
@@ -70,7 +70,7 @@ module _ (lossy : Bool) where
   behind_colon done (k ∷ c) v r s (inl h) = absurd (apart 58 h refl)
   behind_colon done c v r s (inr h) = absurd (no_end c 58 (inr refl) h)
 
-  module _ (b : List ℕ) (i j : ℕ) (c : List Kind) (w : Spot) (ts : List Token) (g : PrefixAt lossy b i c w ts) (l : i ≤ j) (u v : List ℕ) (hu : ws u) where
+  module _ (b : List ℕ) (i j : ℕ) (c : List Kind) (w : ExpectedPart) (ts : List Token) (g : PrefixAt lossy b i c w ts) (l : i ≤ j) (u v : List ℕ) (hu : ws u) where
     -- the byte after whitespace may follow
     mark_allowed : (x : ℕ) → (x ≡ 44) ⊎ (x ≡ 58) → piece b i j ≡ u ++ x ∷ v → viable_prefix lossy (take j b) → Allows w c x
     mark_allowed x m e (t, rest, h) =
@@ -83,18 +83,18 @@ module _ (lossy : Bool) where
     there x e = append_assoc (take i b) u (x ∷ v) ∙ ap (λ y. take i b ++ y) (sym e) ∙ sym (take_on b i j l)
 
 -- after a gap: at the same place, whitespace aside, or after a mark
-pub data Across (lossy : Bool) (b : List ℕ) (i j : ℕ) (c : List Kind) (w : Spot) (ts : List Token) : Type 0 where
+pub data Across (lossy : Bool) (b : List ℕ) (i j : ℕ) (c : List Kind) (w : ExpectedPart) (ts : List Token) : Type 0 where
   spaced : ws (piece b i j) → Across lossy b i j c w ts
   marked : Behind lossy (take j b) ts → Across lossy b i j c w ts
 
-pub across : (lossy : Bool) (b : List ℕ) (i j : ℕ) (c : List Kind) (w : Spot) (ts : List Token) → PrefixAt lossy b i c w ts → i ≤ j → IsGap (piece b i j) → viable_prefix lossy (take j b) → Across lossy b i j c w ts
+pub across : (lossy : Bool) (b : List ℕ) (i j : ℕ) (c : List Kind) (w : ExpectedPart) (ts : List Token) → PrefixAt lossy b i c w ts → i ≤ j → IsGap (piece b i j) → viable_prefix lossy (take j b) → Across lossy b i j c w ts
 across lossy b i j c w ts g l h n = by h.is_mark
   where
     u : List ℕ
     u = h.before
 
     v : List ℕ
-    v = h.behind
+    v = h.after
 
     at : reading lossy (take i b ++ u) c w ts
     at = reading_space lossy u h.space_before g.at
@@ -112,9 +112,9 @@ across lossy b i j c w ts g l h n = by h.is_mark
     by (inr (inr e)) =
         let m = row_of 58 e in moved 58 m (behind_colon lossy w c v at h.space_behind (mark_allowed lossy b i j c w ts g l u v h.space_before 58 (inr refl) m n))
 
-pub gap_has_no_token : (lossy : Bool) (b : List ℕ) (i j : ℕ) (c : List Kind) (w : Spot) (ts : List Token) → PrefixAt lossy b i c w ts → i ≤ j → IsGap (piece b i j) → viable_prefix lossy (take j b) → (c' : List Kind) × (w' : Spot) × reading lossy (take j b) c' w' ts
+pub gap_has_no_token : (lossy : Bool) (b : List ℕ) (i j : ℕ) (c : List Kind) (w : ExpectedPart) (ts : List Token) → PrefixAt lossy b i c w ts → i ≤ j → IsGap (piece b i j) → viable_prefix lossy (take j b) → (c' : List Kind) × (w' : ExpectedPart) × reading lossy (take j b) c' w' ts
 gap_has_no_token lossy b i j c w ts g l h n = by (across lossy b i j c w ts g l h n)
   where
-    by : Across lossy b i j c w ts → (c' : List Kind) × (w' : Spot) × reading lossy (take j b) c' w' ts
+    by : Across lossy b i j c w ts → (c' : List Kind) × (w' : ExpectedPart) × reading lossy (take j b) c' w' ts
     by (spaced s) = (c, w, spaced_on lossy b i j c w ts g l s)
     by (marked (c', w', r, d)) = (c', w', r)

@@ -1,8 +1,8 @@
 -- The rest of an input: its whitespace, its literals, and where its last number ends.
 use Rattle.std.proofs.Common.{Bool, true, false, ◌≡◌, ◌≢◌, ℕ, ◌<◌, ◌≤◌, List, [], ◌∷◌, ◌++◌, ◌⊎◌, inl, inr, refl, sym, ap, ◌∙◌, subst, arith, IsUtf8}
 use Rattle.std.proofs.lemmas.Bool.{cases_lt, cases_eq}
-use Rattle.json_grammar.specs.declared.Spot.{Spot}
-use Rattle.json_grammar.specs.declared.Spot.TheVariants.{Done as done}
+use Rattle.json_grammar.specs.declared.ExpectedPart.{ExpectedPart}
+use Rattle.json_grammar.specs.declared.ExpectedPart.TheVariants.{Done as done}
 use Rattle.json_grammar.specs.Tree.{Token, num_token}
 use Rattle.json_grammar.specs.Grammar.{IsWhitespace, ws, IsDigit, null_bytes, boolean_bytes}
 use Rattle.json_grammar.specs.NumberEnds.{EndsNumber}
@@ -49,10 +49,10 @@ number_last ts l r h e l' a f = subst (λ o. EndsNumber o r) (same l l' (last_to
     same : (l l' : List ℕ) → num_token l ≡ num_token l' → l ≡ l'
     same l l' e = cc
 
-ends_head : (w : Spot) (ts : List Token) (y : ℕ) (m n : List ℕ) → LastEnds w ts (y ∷ m) → LastEnds w ts (y ∷ n)
+ends_head : (w : ExpectedPart) (ts : List Token) (y : ℕ) (m n : List ℕ) → LastEnds w ts (y ∷ m) → LastEnds w ts (y ∷ n)
 ends_head w ts y m n h e l a f x i j g k = h e l a f x m j (ap (λ o. o ∷ m) (head g)) k
 
-pub ends_space : (w : Spot) (ts : List Token) (z : List ℕ) (x : ℕ) (m n : List ℕ) → LastEnds w ts (z ++ x ∷ m) → LastEnds w ts (z ++ x ∷ n)
+pub ends_space : (w : ExpectedPart) (ts : List Token) (z : List ℕ) (x : ℕ) (m n : List ℕ) → LastEnds w ts (z ++ x ∷ m) → LastEnds w ts (z ++ x ∷ n)
 ends_space w ts [] x m n h = ends_head w ts x m n h
 ends_space w ts (y ∷ z) x m n h = ends_head w ts y (z ++ x ∷ m) (z ++ x ∷ n) h
 

@@ -3,8 +3,8 @@ use Rattle.std.proofs.Common.{Bool, true, false, ◌≡◌, ◌≢◌, ℕ, zero
 use Rattle.std.proofs.lemmas.Bool.{cases_lt, cases_eq}
 use Rattle.json_grammar.specs.declared.Kind.{Kind}
 use Rattle.json_grammar.specs.declared.Kind.TheVariants.{Array as array, Object as object}
-use Rattle.json_grammar.specs.declared.Spot.{Spot}
-use Rattle.json_grammar.specs.declared.Spot.TheVariants.{Value as at_value, Colon as colon, Done as done}
+use Rattle.json_grammar.specs.declared.ExpectedPart.{ExpectedPart}
+use Rattle.json_grammar.specs.declared.ExpectedPart.TheVariants.{Value as at_value, Colon as colon, Done as done}
 use Rattle.json_grammar.specs.Tree.{Tree, null, boolean, num, text, depth, Token, null_token, boolean_token, num_token, text_token, begin, end, key_token, tokens}
 use Rattle.json_grammar.specs.Grammar.{IsWhitespace, ws, IsDigit, number, Atom, Atoms, no_atoms, chars, string, null_bytes, boolean_bytes, value, is_text}
 use Rattle.json_grammar.specs.Place.{TakesValue, TakesKey, TakesEnd, bracket, closing, opened, after_comma, viable_prefix, reading, open_one, read_value, read_comma, read_key, read_colon}
@@ -39,7 +39,7 @@ module _ (lossy : Bool) (limit : ℕ) where
     pub p : List ℕ
     pub r : List ℕ
     pub c : List Kind
-    pub w : Spot
+    pub w : ExpectedPart
     pub ts : List Token
     pub bytes : b ≡ p ++ r
     pub at : reading lossy p c w ts
@@ -61,27 +61,27 @@ module _ (lossy : Bool) (limit : ℕ) where
 
   -- ---- how many are open
 
-  pub peak_scalar : {p : List ℕ} {c : List Kind} {w : Spot} {ts : List Token} (t : Tree) → depth t ≡ 0 → reading lossy p c w ts → peak 0 (ts ++ tokens t) ≡ peak 0 ts
+  pub peak_scalar : {p : List ℕ} {c : List Kind} {w : ExpectedPart} {ts : List Token} (t : Tree) → depth t ≡ 0 → reading lossy p c w ts → peak 0 (ts ++ tokens t) ≡ peak 0 ts
   peak_scalar {c = c} {ts = ts} t d h =
       let i = still_reading lossy h in let l = open_peak lossy h in let j : peak (still_open 0 ts) (tokens t) ≡ length c + depth t = ap (λ x. peak x (tokens t)) i ∙ peak_tree t (length c) in
       omega (arith, peak_append 0 ts (tokens t))
 
-  pub peak_key : {p : List ℕ} {c : List Kind} {w : Spot} {ts : List Token} (s : List ℕ) → reading lossy p c w ts → peak 0 (ts ++ key_token s ∷ []) ≡ peak 0 ts
+  pub peak_key : {p : List ℕ} {c : List Kind} {w : ExpectedPart} {ts : List Token} (s : List ℕ) → reading lossy p c w ts → peak 0 (ts ++ key_token s ∷ []) ≡ peak 0 ts
   peak_key {c = c} {ts = ts} s h = let i = still_reading lossy h in let l = open_peak lossy h in omega (arith, peak_append 0 ts (key_token s ∷ []))
 
-  pub peak_end : {p : List ℕ} {c : List Kind} {w : Spot} {ts : List Token} (k : Kind) → reading lossy p c w ts → peak 0 (ts ++ end k ∷ []) ≡ peak 0 ts
+  pub peak_end : {p : List ℕ} {c : List Kind} {w : ExpectedPart} {ts : List Token} (k : Kind) → reading lossy p c w ts → peak 0 (ts ++ end k ∷ []) ≡ peak 0 ts
   peak_end {c = c} {ts = ts} k h = let i = still_reading lossy h in let l = open_peak lossy h in omega (arith, peak_append 0 ts (end k ∷ []))
 
-  pub low_prefix : {p : List ℕ} {c : List Kind} {w : Spot} {ts : List Token} → reading lossy p c w ts → peak 0 ts ≤ limit → opens p ≤ limit
+  pub low_prefix : {p : List ℕ} {c : List Kind} {w : ExpectedPart} {ts : List Token} → reading lossy p c w ts → peak 0 ts ≤ limit → opens p ≤ limit
   low_prefix h l = let e = opens_reading lossy h in omega arith
 
   -- within a scalar no more are open than before it
-  pub low_value : {q : List ℕ} {c : List Kind} {w : Spot} {ts : List Token} (t : Tree) (v rest : List ℕ) → depth t ≡ 0 → reading lossy q c w ts → TakesValue w → value lossy t (v ++ rest) → peak 0 ts ≤ limit → opens (q ++ v) ≤ limit
+  pub low_value : {q : List ℕ} {c : List Kind} {w : ExpectedPart} {ts : List Token} (t : Tree) (v rest : List ℕ) → depth t ≡ 0 → reading lossy q c w ts → TakesValue w → value lossy t (v ++ rest) → peak 0 ts ≤ limit → opens (q ++ v) ≤ limit
   low_value {q} {c} {w} {ts} t v rest d h n k l =
       let e = opens_reading lossy (read_value t h n (v ++ rest, [], sym (append-nil (v ++ rest)), k, tt)) in
       let f = peak_scalar t d h in let i = opens_least (q ++ v) rest in let j : opens ((q ++ v) ++ rest) ≡ opens (q ++ (v ++ rest)) = ap opens (append_assoc q v rest) in omega arith
 
-  pub low_string : {q : List ℕ} {c : List Kind} {w : Spot} {ts : List Token} (s v rest : List ℕ) → reading lossy q c w ts → TakesValue w ⊎ TakesKey w → string lossy s (v ++ rest) → peak 0 ts ≤ limit → opens (q ++ v) ≤ limit
+  pub low_string : {q : List ℕ} {c : List Kind} {w : ExpectedPart} {ts : List Token} (s v rest : List ℕ) → reading lossy q c w ts → TakesValue w ⊎ TakesKey w → string lossy s (v ++ rest) → peak 0 ts ≤ limit → opens (q ++ v) ≤ limit
   low_string s v rest h (inl n) k l = low_value (text s) v rest refl h n k l
   low_string {q} {c} {w} {ts} s v rest h (inr n) k l =
       let e = opens_reading lossy (read_key s h n (v ++ rest, [], sym (append-nil (v ++ rest)), k, tt)) in
@@ -124,7 +124,7 @@ module _ (lossy : Bool) (limit : ℕ) where
       go (a, z, e, ha, hz) = subst (λ o. reading lossy o [] done (tokens t)) (sym e) (value_place lossy t a z ha hz)
 
   -- where whitespace was passed and a byte follows
-  pub record Here (b : List ℕ) (c : List Kind) (w : Spot) : Type 0 where
+  pub record Here (b : List ℕ) (c : List Kind) (w : ExpectedPart) : Type 0 where
     pub p : List ℕ
     pub ts : List Token
     pub x : ℕ
@@ -136,20 +136,20 @@ module _ (lossy : Bool) (limit : ℕ) where
     pub low : peak 0 ts ≤ limit
     pub utf8 : IsUtf8 (x ∷ m)
 
-  module _ (b : List ℕ) (c : List Kind) (w : Spot) (h : Here b c w) (n : ℕ) (room : length (h.x ∷ h.m) ≤ n) where
+  module _ (b : List ℕ) (c : List Kind) (w : ExpectedPart) (h : Here b c w) (n : ℕ) (room : length (h.x ∷ h.m) ≤ n) where
     abbrev Refused : FaultCode → Type 0
     Refused code = (p : List ℕ) × (x : ℕ) × (rest : List ℕ) × (b ≡ p ++ x ∷ rest) × (length p ≡ length h.p) × (opens p ≤ limit) × row lossy code p x × ¬ (viable_prefix lossy (p ++ x ∷ []))
 
     pub refused : (code : FaultCode) → row lossy code h.p h.x → ¬ (Allows w c h.x) → Refused code
     refused code s a = (h.p, h.x, h.m, h.bytes, refl, low_prefix h.at h.low, s, h.refuse a)
 
-    go_on : (q r : List ℕ) (c' : List Kind) (w' : Spot) (ts' : List Token) → h.x ∷ h.m ≡ q ++ r → q ≢ [] → reading lossy (h.p ++ q) c' w' ts' → LastEnds w' ts' r
+    go_on : (q r : List ℕ) (c' : List Kind) (w' : ExpectedPart) (ts' : List Token) → h.x ∷ h.m ≡ q ++ r → q ≢ [] → reading lossy (h.p ++ q) c' w' ts' → LastEnds w' ts' r
         → ((y : ℕ) (k : List ℕ) → r ≡ y ∷ k → IsDigit y → ends_in_zero lossy (h.p ++ q) → ⊥) → peak 0 ts' ≤ limit → IsUtf8 r → Step b n
     go_on q r c' w' ts' e f g i j l u =
         goes (record { p = h.p ++ q; r = r; c = c'; w = w'; ts = ts'; bytes = h.bytes ∙ ap (λ o. h.p ++ o) e ∙ sym (append_assoc h.p q r); at = g; ends = i; zero_ends = j; low = l; utf8 = u })
         (let s = shorter q r (h.x ∷ h.m) e f in omega arith)
 
-    one_on : (c' : List Kind) (w' : Spot) (ts' : List Token) → reading lossy (h.p ++ h.x ∷ []) c' w' ts' → LastEnds w' ts' h.m → h.x ≢ 48 → h.x < 128 → peak 0 ts' ≤ limit → Step b n
+    one_on : (c' : List Kind) (w' : ExpectedPart) (ts' : List Token) → reading lossy (h.p ++ h.x ∷ []) c' w' ts' → LastEnds w' ts' h.m → h.x ≢ 48 → h.x < 128 → peak 0 ts' ≤ limit → Step b n
     one_on c' w' ts' g i j k l = go_on (h.x ∷ []) h.m c' w' ts' refl (some_one h.x) g i (λ y m e d z. no_zero_end h.p h.x j z) l (utf8_tail h.x h.m k h.utf8)
 
     pub no_bad : is_bad_number lossy h.p h.x → ⊥

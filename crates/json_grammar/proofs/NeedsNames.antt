@@ -3,13 +3,13 @@ use Rattle.std.proofs.Common.{Bool, ◌≡◌, ◌≢◌, ℕ, ◌-◌, ◌≤�
 use Rattle.std.proofs.lemmas.List.Folds.{drop_split}
 use Rattle.json_grammar.specs.declared.Kind.{Kind}
 use Rattle.json_grammar.specs.declared.Kind.TheVariants.{Array as array, Object as object}
-use Rattle.json_grammar.specs.declared.Spot.{Spot}
-use Rattle.json_grammar.specs.declared.Spot.TheVariants.{Value as at_value, First as first, Key as key, KeyOrEnd as key_or_end, Colon as colon, Done as done}
+use Rattle.json_grammar.specs.declared.ExpectedPart.{ExpectedPart}
+use Rattle.json_grammar.specs.declared.ExpectedPart.TheVariants.{Value as at_value, First as first, Key as key, KeyOrEnd as key_or_end, Colon as colon, Done as done}
 use Rattle.json_grammar.specs.Tree.{text, Token, text_token, key_token}
 use Rattle.json_grammar.specs.Grammar.{IsWhitespace, number, string, is_text}
 use Rattle.json_grammar.specs.Fault.{is_word}
 use Rattle.json_grammar.specs.Place.{viable_prefix, reading, read_value, TakesValue, TakesKey, takes_at_value, takes_first, takes_key, takes_key_or_end}
-use Rattle.json_grammar.specs.Given.{piece, LastEnds, PrefixAt, NamesTold, NoNameEnds}
+use Rattle.json_grammar.specs.Given.{piece, LastEnds, PrefixAt, NamesReturned, NoNameEnds}
 use Rattle.json_grammar.specs.Needs.{IsGap, IsBegun, IsLeadingZero, NeedsByte}
 use Rattle.json_grammar.specs.Allows.{Closes, Separates, Allows}
 use Rattle.std.proofs.lemmas.List.{append_cancel_left}
@@ -42,7 +42,7 @@ scalar_no_comma (k ∷ c) x s h = omega arith
 scalar_is_not : (x : ℕ) → BeginsScalar x → (x ≡ 34) ⊎ (x ≡ 58) → ⊥
 scalar_is_not x s h = omega arith
 
-takes_value : (w : Spot) (c : List Kind) (x : ℕ) → BeginsScalar x → Allows w c x → TakesValue w
+takes_value : (w : ExpectedPart) (c : List Kind) (x : ℕ) → BeginsScalar x → Allows w c x → TakesValue w
 takes_value at_value c x s h = takes_at_value
 takes_value first c x s h = takes_first
 takes_value key c x s h = absurd (scalar_is_not x s (inl h))
@@ -61,7 +61,7 @@ quote_no_comma : (c : List Kind) → Separates c 34 → ⊥
 quote_no_comma [] h = h
 quote_no_comma (k ∷ c) h = omega arith
 
-takes_string : (w : Spot) (c : List Kind) → Allows w c 34 → TakesValue w ⊎ TakesKey w
+takes_string : (w : ExpectedPart) (c : List Kind) → Allows w c 34 → TakesValue w ⊎ TakesKey w
 takes_string at_value c h = inl takes_at_value
 takes_string first c h = inl takes_first
 takes_string key c h = inr takes_key
@@ -98,10 +98,10 @@ zero_number r (inr e) = subst number (sym (append-nil r ∙ e)) (number_by_state
 
 -- ---- after the gap
 
-module _ (lossy : Bool) (b : List ℕ) (i j k : ℕ) (c : List Kind) (w : Spot) (ts : List Token) (g : PrefixAt lossy b i c w ts) (l : i ≤ j) (m : j ≤ k) (within : k ≤ length b) (v : viable_prefix lossy (take k b)) where
+module _ (lossy : Bool) (b : List ℕ) (i j k : ℕ) (c : List Kind) (w : ExpectedPart) (ts : List Token) (g : PrefixAt lossy b i c w ts) (l : i ≤ j) (m : j ≤ k) (within : k ≤ length b) (v : viable_prefix lossy (take k b)) where
   -- the place after the gap allows the byte there
   abbrev Allowing : ℕ → Type 0
-  Allowing x = (c' : List Kind) × (w' : Spot) × reading lossy (take j b) c' w' ts × Allows w' c' x
+  Allowing x = (c' : List Kind) × (w' : ExpectedPart) × reading lossy (take j b) c' w' ts × Allows w' c' x
 
   allowing : (x : ℕ) (r : List ℕ) → piece b j k ≡ x ∷ r → ¬ (IsWhitespace x) → Across lossy b i j c w ts → Allowing x
   allowing x r e n (spaced s) =
@@ -119,14 +119,14 @@ module _ (lossy : Bool) (b : List ℕ) (i j k : ℕ) (c : List Kind) (w : Spot) 
     next_byte lossy v.0 [] x (r ++ v.1) at tt (λ f. absurd (d f)) (subst (is_text lossy v.0) (ap (λ y. y ++ v.1) (take_on b j k m ∙ ap (λ y. take j b ++ y) e) ∙ append_assoc (take j b) (x ∷ r) v.1) v.2) n,
   )
 
-  place_of : Across lossy b i j c w ts → (c' : List Kind) × (w' : Spot) × reading lossy (take j b) c' w' ts
+  place_of : Across lossy b i j c w ts → (c' : List Kind) × (w' : ExpectedPart) × reading lossy (take j b) c' w' ts
   place_of (spaced s) = (c, w, spaced_on lossy b i j c w ts g l s)
   place_of (marked (c', w', at, d)) = (c', w', at)
 
-  told_by : (c' : List Kind) (w' : Spot) → reading lossy (take j b) c' w' ts → NoNameEnds lossy b j k → NamesTold lossy b i k
+  told_by : (c' : List Kind) (w' : ExpectedPart) → reading lossy (take j b) c' w' ts → NoNameEnds lossy b j k → NamesReturned lossy b i k
   told_by c' w' at n = names_told lossy b i j k c c' w w' ts g l (omega arith) at n
 
-  by_first : (x : ℕ) (r z : List ℕ) → piece b j k ≡ x ∷ r → Across lossy b i j c w ts → is_word ((x ∷ r) ++ z) ⊎ (number ((x ∷ r) ++ z) ⊎ ((z ≢ []) × ((s : List ℕ) × string lossy s ((x ∷ r) ++ z)))) → NamesTold lossy b i k
+  by_first : (x : ℕ) (r z : List ℕ) → piece b j k ≡ x ∷ r → Across lossy b i j c w ts → is_word ((x ∷ r) ++ z) ⊎ (number ((x ∷ r) ++ z) ⊎ ((z ≢ []) × ((s : List ℕ) × string lossy s ((x ∷ r) ++ z)))) → NamesReturned lossy b i k
   by_first x r z e a (inl h) =
       let f = word_first x r z h in let o = allowing x r e (scalar_no_space x f) a in
       told_by o.0 o.1 o.2 (word_no_name lossy b j k o.0 o.1 ts within m o.2 z (takes_value o.1 o.0 x f o.3) (subst is_word (ap (λ y. y ++ z) (sym e)) h))
@@ -147,7 +147,7 @@ zero_some [] (inl e) f = cc
 zero_some [] (inr e) f = cc
 zero_some (x ∷ r) h f = cc
 
-pub names_before : (lossy : Bool) (zero : Type 0) (b : List ℕ) (i k : ℕ) (c : List Kind) (w : Spot) (ts : List Token) → PrefixAt lossy b i c w ts → k ≤ length b → viable_prefix lossy (take k b) → NeedsByte lossy zero b i k → NamesTold lossy b i k
+pub names_before : (lossy : Bool) (zero : Type 0) (b : List ℕ) (i k : ℕ) (c : List Kind) (w : ExpectedPart) (ts : List Token) → PrefixAt lossy b i c w ts → k ≤ length b → viable_prefix lossy (take k b) → NeedsByte lossy zero b i k → NamesReturned lossy b i k
 names_before lossy zero b i k c w ts g within v n = by n.begun
   where
     l : i ≤ n.at
@@ -159,15 +159,15 @@ names_before lossy zero b i k c w ts g within v n = by n.begun
     a : Across lossy b i n.at c w ts
     a = across lossy b i n.at c w ts g l n.gap (shorter_viable lossy (take n.at b) (piece b n.at k) (subst (viable_prefix lossy) (take_on b n.at k m) v))
 
-    whole : (x : ℕ) (r z : List ℕ) → piece b n.at k ≡ x ∷ r → is_word ((x ∷ r) ++ z) ⊎ (number ((x ∷ r) ++ z) ⊎ ((z ≢ []) × ((s : List ℕ) × string lossy s ((x ∷ r) ++ z)))) → NamesTold lossy b i k
+    whole : (x : ℕ) (r z : List ℕ) → piece b n.at k ≡ x ∷ r → is_word ((x ∷ r) ++ z) ⊎ (number ((x ∷ r) ++ z) ⊎ ((z ≢ []) × ((s : List ℕ) × string lossy s ((x ∷ r) ++ z)))) → NamesReturned lossy b i k
     whole x r z e h = by_first lossy b i n.at k c w ts g l m within v x r z e a h
 
-    begun : (z : List ℕ) → z ≢ [] → is_word (piece b n.at k ++ z) ⊎ ((number (piece b n.at k ++ z) × ¬ (number (piece b n.at k))) ⊎ ((s : List ℕ) × string lossy s (piece b n.at k ++ z))) → (x : ℕ) × (r : List ℕ) × (piece b n.at k ≡ x ∷ r) → NamesTold lossy b i k
+    begun : (z : List ℕ) → z ≢ [] → is_word (piece b n.at k ++ z) ⊎ ((number (piece b n.at k ++ z) × ¬ (number (piece b n.at k))) ⊎ ((s : List ℕ) × string lossy s (piece b n.at k ++ z))) → (x : ℕ) × (r : List ℕ) × (piece b n.at k ≡ x ∷ r) → NamesReturned lossy b i k
     begun z o (inl h) (x, r, e) = whole x r z e (inl (subst (λ y. is_word (y ++ z)) e h))
     begun z o (inr (inl h)) (x, r, e) = whole x r z e (inr (inl (subst (λ y. number (y ++ z)) e h.0)))
     begun z o (inr (inr h)) (x, r, e) = whole x r z e (inr (inr (o, (h.0, subst (λ y. string lossy h.0 (y ++ z)) e h.1))))
 
-    by : IsBegun lossy zero (piece b n.at k) → NamesTold lossy b i k
+    by : IsBegun lossy zero (piece b n.at k) → NamesReturned lossy b i k
     by (inl e) =
         let o = place_of lossy b i n.at k c w ts g l m within v a in
         let d : k ≡ n.at = omega (arith, m, within, length-take (k - n.at) (drop n.at b), length-drop n.at b, ap length e) in
@@ -182,7 +182,7 @@ names_before lossy zero b i k c w ts g within v n = by n.begun
 no_text_name : (ts : List Token) (s : List ℕ) → ts ++ text_token s ∷ [] ≡ ts ++ key_token s ∷ [] → ⊥
 no_text_name ts s e = let f : text_token s ∷ [] ≡ key_token s ∷ [] = append_cancel_left ts (text_token s ∷ []) (key_token s ∷ []) e in absurd (cc)
 
-pub name_behind_gap : (lossy : Bool) (b : List ℕ) (i j n : ℕ) (c c' : List Kind) (w w' : Spot) (ts : List Token) (s : List ℕ)
+pub name_after_gap : (lossy : Bool) (b : List ℕ) (i j n : ℕ) (c c' : List Kind) (w w' : ExpectedPart) (ts : List Token) (s : List ℕ)
     → PrefixAt lossy b i c w ts
     → i ≤ j
     → j ≤ n
@@ -190,8 +190,8 @@ pub name_behind_gap : (lossy : Bool) (b : List ℕ) (i j n : ℕ) (c c' : List K
     → IsGap (piece b i j)
     → string lossy s (piece b j n)
     → reading lossy (take n b) c' w' (ts ++ key_token s ∷ [])
-    → (d : List Kind) × (v : Spot) × reading lossy (take j b) d v ts × TakesKey v
-name_behind_gap lossy b i j n c c' w w' ts s g l m within gap (q, f, h) r = by (takes_string o.1 o.0 o.3)
+    → (d : List Kind) × (v : ExpectedPart) × reading lossy (take j b) d v ts × TakesKey v
+name_after_gap lossy b i j n c c' w w' ts s g l m within gap (q, f, h) r = by (takes_string o.1 o.0 o.3)
   where
     v : viable_prefix lossy (take n b)
     v = place_viable lossy (take n b) c' w' (ts ++ key_token s ∷ []) r
@@ -199,10 +199,10 @@ name_behind_gap lossy b i j n c c' w w' ts s g l m within gap (q, f, h) r = by (
     a : Across lossy b i j c w ts
     a = across lossy b i j c w ts g l gap (shorter_viable lossy (take j b) (piece b j n) (subst (viable_prefix lossy) (take_on b j n m) v))
 
-    o : (d : List Kind) × (u : Spot) × reading lossy (take j b) d u ts × Allows u d 34
+    o : (d : List Kind) × (u : ExpectedPart) × reading lossy (take j b) d u ts × Allows u d 34
     o = allowing lossy b i j n c w ts g l m within v 34 _ f quote_no_space a
 
-    by : TakesValue o.1 ⊎ TakesKey o.1 → (d : List Kind) × (u : Spot) × reading lossy (take j b) d u ts × TakesKey u
+    by : TakesValue o.1 ⊎ TakesKey o.1 → (d : List Kind) × (u : ExpectedPart) × reading lossy (take j b) d u ts × TakesKey u
     by (inr t) = (o.0, o.1, o.2, t)
     by (inl t) =
         let as_text = read_value (text s) o.2 t (piece b j n, [], sym (append-nil (piece b j n)), (q, f, h), tt) in

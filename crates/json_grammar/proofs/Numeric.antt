@@ -2,7 +2,7 @@
 use Rattle.std.proofs.Common.{◌≡◌, Bool, true, false, ℕ, List, [], ◌∷◌, ◌++◌, refl, sym, ◌∙◌}
 use Rattle.std.proofs.lemmas.Grind.{not_there}
 use Rattle.json_grammar.specs.declared.Kind.{Kind}
-use Rattle.json_grammar.specs.declared.Spot.{Spot}
+use Rattle.json_grammar.specs.declared.ExpectedPart.{ExpectedPart}
 use Rattle.json_grammar.specs.Tree.{Tree, null, boolean, num, text, list, pairs, Trees, no_trees, tree_and, Pairs, no_pairs, pair_and, Token, null_token, boolean_token, num_token, text_token, begin, end, key_token, tokens, trees_tokens, pairs_tokens}
 use Rattle.json_grammar.specs.Grammar.{number, value, elements, more_elements, members, more_members}
 use Rattle.json_grammar.specs.NumberStates.{at_start, number_run, is_whole_number}
@@ -74,7 +74,7 @@ module _ (lossy : Bool) where
     more_members_numeric (pair_and s t ps) b (p, q, e0, hp, (u, a1, e, hu, (k, a2, e1, hk, (w, a3, e2, hw, (c, a4, e3, hc, (u', a5, e4, hu', (v, a6, e5, hv, (w', z, e6, hw', hz)))))))) =
         (tt, numeric_append (tokens t) _ (value_numeric t v hv) (more_members_numeric ps z hz))
 
-  reading_numeric : {p : List ℕ} {c : List Kind} {w : Spot} {ts : List Token} → reading lossy p c w ts → AllNumeric ts
+  reading_numeric : {p : List ℕ} {c : List Kind} {w : ExpectedPart} {ts : List Token} → reading lossy p c w ts → AllNumeric ts
   unfolding AllNumeric Numeric
   reading_numeric (start s) = tt
   reading_numeric (open_one {ts = ts} k h v q) = numeric_append ts _ (reading_numeric h) (tt, tt)
@@ -84,6 +84,6 @@ module _ (lossy : Bool) where
   reading_numeric (read_colon h q) = reading_numeric h
 
 -- so is that of the last token
-pub last_number : {lossy : Bool} {p : List ℕ} {c : List Kind} {w : Spot} (ts : List Token) (l : List ℕ) → reading lossy p c w (ts ++ num_token l ∷ []) → number l
+pub last_number : {lossy : Bool} {p : List ℕ} {c : List Kind} {w : ExpectedPart} (ts : List Token) (l : List ℕ) → reading lossy p c w (ts ++ num_token l ∷ []) → number l
 unfolding Numeric
 last_number {lossy = lossy} ts l h = numeric_last ts (num_token l) (reading_numeric lossy h)

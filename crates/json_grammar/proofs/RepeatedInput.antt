@@ -5,8 +5,8 @@ use Rattle.std.proofs.lemmas.Bool.{cases_lt}
 use Rattle.std.proofs.lemmas.List.{take-append-drop, take-append-le}
 use Rattle.json_grammar.specs.declared.Kind.{Kind}
 use Rattle.json_grammar.specs.declared.Kind.TheVariants.{Object as object}
-use Rattle.json_grammar.specs.declared.Spot.{Spot}
-use Rattle.json_grammar.specs.declared.Spot.TheVariants.{Colon as colon, Done as done}
+use Rattle.json_grammar.specs.declared.ExpectedPart.{ExpectedPart}
+use Rattle.json_grammar.specs.declared.ExpectedPart.TheVariants.{Colon as colon, Done as done}
 use Rattle.json_grammar.specs.Tree.{Token, key_token}
 use Rattle.json_grammar.specs.Place.{viable_prefix, place, reading, read_key}
 use Rattle.json_grammar.specs.Fault.{opens, FaultCode, eof_while_parsing, recursion_limit_exceeded, in_word, in_number, in_string, row, faulty, viable_value}
@@ -159,7 +159,7 @@ module _ (lossy : Bool) where
   pub search_any : (b : List ℕ) → IsUtf8 b → NoneIn lossy b ⊎ FirstIn lossy b
   search_any b u = by (some_outcome lossy (opens b) b u)
     where
-      short : ((c : List Kind) × (w : Spot) × place lossy b c w) ⊎ (in_word lossy b ⊎ (in_number lossy b ⊎ ((e : List ℕ) × in_string lossy b e)))
+      short : ((c : List Kind) × (w : ExpectedPart) × place lossy b c w) ⊎ (in_word lossy b ⊎ (in_number lossy b ⊎ ((e : List ℕ) × in_string lossy b e)))
           → NoneIn lossy b ⊎ FirstIn lossy b
       short (inl (c, w, s)) = search_end lossy b (at_place c w) s
       short (inr (inl s)) = search_end lossy b within_word s
@@ -171,7 +171,7 @@ module _ (lossy : Bool) where
           → row lossy code p x
           → ¬ (viable_prefix lossy (p ++ x ∷ []))
           → NoneIn lossy b ⊎ FirstIn lossy b
-      longest_row code p x rest e s n = let m = meant lossy code p x s in at (search_end lossy p m.end m.stands)
+      longest_row code p x rest e s n = let m = meant lossy code p x s in at (search_end lossy p m.end m.is_there)
         where
           at : NoneIn lossy p ⊎ FirstIn lossy p → NoneIn lossy b ⊎ FirstIn lossy b
           at (inl g) = inl (λ j h. g j (in_longest b p x rest j e n h))

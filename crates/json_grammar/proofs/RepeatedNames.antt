@@ -3,8 +3,8 @@ use Rattle.std.proofs.Common.{Bool, ◌≡◌, ◌≢◌, ℕ, suc, ◌<◌, ◌
 use Rattle.std.specs.List.{Contains}
 use Rattle.json_grammar.specs.declared.Kind.{Kind}
 use Rattle.json_grammar.specs.declared.Kind.TheVariants.{Array as array, Object as object}
-use Rattle.json_grammar.specs.declared.Spot.{Spot}
-use Rattle.json_grammar.specs.declared.Spot.TheVariants.{Value as at_value, Key as key, KeyOrEnd as key_or_end, Colon as colon}
+use Rattle.json_grammar.specs.declared.ExpectedPart.{ExpectedPart}
+use Rattle.json_grammar.specs.declared.ExpectedPart.TheVariants.{Value as at_value, Key as key, KeyOrEnd as key_or_end, Colon as colon}
 use Rattle.json_grammar.specs.Tree.{Tree, null, boolean, num, text, list, pairs, Pairs, no_pairs, pair_and, Token, begin, key_token, pairs_tokens}
 use Rattle.json_grammar.specs.Grammar.{ws, byte, ◌then◌, string, members}
 use Rattle.json_grammar.specs.Place.{TakesValue, TakesKey, takes_key, takes_key_or_end, reading, read_key}
@@ -44,7 +44,7 @@ module _ (lossy : Bool) where
     pub rest : List ℕ
     pub s : List ℕ
     pub c : List Kind
-    pub w : Spot
+    pub w : ExpectedPart
     pub ts : List Token
     pub bytes : p ≡ q ++ (v ++ rest)
     pub at : reading lossy q (object ∷ c) w ts
@@ -54,7 +54,7 @@ module _ (lossy : Bool) where
     pub offset : length q ≡ k
 
   -- after an object's beginning, whole members and a comma a name may follow
-  listed_steps : (o m : List ℕ) (c : List Kind) (w : Spot) (ts : List Token) (ps : Pairs) (s : List ℕ)
+  listed_steps : (o m : List ℕ) (c : List Kind) (w : ExpectedPart) (ts : List Token) (ps : Pairs) (s : List ℕ)
       → reading lossy o c w ts
       → TakesValue w
       → (members lossy ps then byte 44 then ws) m
@@ -134,7 +134,7 @@ module _ (lossy : Bool) where
       → Listing inner new
   key_listing k inner new (in_key {a = a} {ts = ts} z i h) = members_listing a z ts i h
 
-  listing : (k : Kind) (w : Spot) (inner : List ℕ) (new : List Token)
+  listing : (k : Kind) (w : ExpectedPart) (inner : List ℕ) (new : List Token)
       → TakesKey w
       → In lossy k w inner new
       → Listing inner new
@@ -160,7 +160,7 @@ module _ (lossy : Bool) where
             name = r.s;
             rest = r.rest;
             bytes = r.bytes ∙ ap (λ y. y ++ (r.v ++ r.rest)) i.bytes;
-            at = (r.c, i.spot, (i.old, i.at), i.takes);
+            at = (r.c, i.expected, (i.old, i.at), i.takes);
             is_inside = l;
             spells = r.is_string;
             is_earlier = subst (λ y. Contains y r.s) (keys_inside i.old ps) (subst (λ y. Contains (open_keys y) r.s) (i.tokens_so ∙ ap (λ y. i.old ++ begin object ∷ y) e) r.is_name);
@@ -206,7 +206,7 @@ module _ (lossy : Bool) where
       by (shorter x g i j) = (x ∷ g, i)
 
   -- no prefix within a string is at a place
-  pub inside_string : (q v s d f : List ℕ) (c' : List Kind) (w' : Spot) (ts' : List Token)
+  pub inside_string : (q v s d f : List ℕ) (c' : List Kind) (w' : ExpectedPart) (ts' : List Token)
       → before_string lossy q
       → string lossy s v
       → v ≡ d ++ f
@@ -228,7 +228,7 @@ module _ (lossy : Bool) where
     in_prefix : NameAt p k → Split p z k r
     in_rest : (e : List ℕ) → r.q ≡ p ++ e → z ≡ e ++ (r.v ++ r.rest) → Split p z k r
 
-  pub split_at : {c : List Kind} {w : Spot} {ts : List Token} (p z : List ℕ) (k : ℕ)
+  pub split_at : {c : List Kind} {w : ExpectedPart} {ts : List Token} (p z : List ℕ) (k : ℕ)
       → reading lossy p c w ts
       → (r : NameAt (p ++ z) k)
       → Split p z k r
@@ -246,7 +246,7 @@ module _ (lossy : Bool) where
       by (longer e i j) = in_rest e i j
       by (shorter x e i j) = inner x e i (cut (x ∷ e) z r.v r.rest (sym j))
 
-  pub at_or_behind : {c : List Kind} {w : Spot} {ts : List Token} (p z : List ℕ) (k : ℕ)
+  pub at_or_behind : {c : List Kind} {w : ExpectedPart} {ts : List Token} (p z : List ℕ) (k : ℕ)
       → reading lossy p c w ts
       → repeated lossy (p ++ z) k
       → repeated lossy p k ⊎ (length p ≤ k)
@@ -259,7 +259,7 @@ module _ (lossy : Bool) where
   -- ---- tokens
 
   -- after more bytes of one input more tokens were returned
-  pub reading_more : {c c' : List Kind} {w w' : Spot} {ts ts' : List Token} (a z : List ℕ)
+  pub reading_more : {c c' : List Kind} {w w' : ExpectedPart} {ts ts' : List Token} (a z : List ℕ)
       → reading lossy a c w ts
       → LastEnds w ts z
       → reading lossy (a ++ z) c' w' ts'
@@ -276,7 +276,7 @@ module _ (lossy : Bool) where
       f = lexed_begins lossy d.row d'.row (a ++ z) (d.space ++ z) (d'.space ++ []) d.lexed (subst (λ x. Lexed lossy d'.row x (d'.space ++ [])) (append-nil (a ++ z)) d'.lexed) (ws-append d'.space [] d'.is_space tt)
 
   -- a name that repeats in the bytes repeats in the tokens
-  pub repeated_tokens : {p : List ℕ} {c : List Kind} {w : Spot} {ts : List Token} (k : ℕ)
+  pub repeated_tokens : {p : List ℕ} {c : List Kind} {w : ExpectedPart} {ts : List Token} (k : ℕ)
       → reading lossy p c w ts
       → NameAt p k
       → TokensRepeat ts
@@ -289,7 +289,7 @@ module _ (lossy : Bool) where
       go (m, e) = subst TokensRepeat (sym e) (repeat_left [] (r.ts ++ key_token r.s ∷ []) m (repeat_last r.ts (key_token r.s) r.is_name))
 
   -- a name that the innermost object has already, and its string
-  pub name_here : {q : List ℕ} {c : List Kind} {w : Spot} {ts : List Token} (s v : List ℕ)
+  pub name_here : {q : List ℕ} {c : List Kind} {w : ExpectedPart} {ts : List Token} (s v : List ℕ)
       → reading lossy q c w ts
       → TakesKey w
       → string lossy s v
@@ -297,11 +297,11 @@ module _ (lossy : Bool) where
       → repeated lossy (q ++ v) (length q)
   name_here {q} {c} {w} {ts} s v h n i j = by c (standing lossy h) h
     where
-      top : (w : Spot) → TakesKey w → Top lossy w q ts → ⊥
+      top : (w : ExpectedPart) → TakesKey w → Top lossy w q ts → ⊥
       top w takes_key t = t
       top w takes_key_or_end t = t
 
-      no_array : (w : Spot) (b : List ℕ) (m : List Token) → TakesKey w → In lossy array w b m → ⊥
+      no_array : (w : ExpectedPart) (b : List ℕ) (m : List Token) → TakesKey w → In lossy array w b m → ⊥
       no_array w b m takes_key t = no_key t
         where
           no_key : In lossy array key b m → ⊥
@@ -324,7 +324,7 @@ module _ (lossy : Bool) where
     before_it : NameAt q k → Here q v k ts s r
     that_one : k ≡ length q → Contains (open_keys ts) s → r.v ≡ v → Here q v k ts s r
 
-  pub here : {c : List Kind} {w : Spot} {ts : List Token} (q v : List ℕ) (k : ℕ) (s : List ℕ)
+  pub here : {c : List Kind} {w : ExpectedPart} {ts : List Token} (q v : List ℕ) (k : ℕ) (s : List ℕ)
       → reading lossy q c w ts
       → TakesKey w
       → string lossy s v

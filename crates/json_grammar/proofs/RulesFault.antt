@@ -3,7 +3,7 @@ use Rattle.std.proofs.Common.{Bool, true, false, ◌≡◌, ℕ, ◌<◌, ◌≤
 use Rattle.std.proofs.lemmas.Bool.{cases_lt}
 use Rattle.std.proofs.lemmas.List.{take-append-drop}
 use Rattle.json_grammar.specs.declared.Kind.{Kind}
-use Rattle.json_grammar.specs.declared.Spot.TheVariants.{Colon as colon}
+use Rattle.json_grammar.specs.declared.ExpectedPart.TheVariants.{Colon as colon}
 use Rattle.json_grammar.specs.Tree.{Tree, depth, Token}
 use Rattle.json_grammar.specs.Grammar.{is_text}
 use Rattle.json_grammar.specs.Place.{viable_prefix, reading}

@@ -5,12 +5,12 @@ use Rattle.std.proofs.lemmas.Bool.{cases_lt}
 use Rattle.std.proofs.lemmas.List.{take-append-drop, length-take-le, append_cancel_left}
 use Rattle.json_grammar.specs.declared.Kind.{Kind}
 use Rattle.json_grammar.specs.declared.Kind.TheVariants.{Object as object}
-use Rattle.json_grammar.specs.declared.Spot.{Spot}
-use Rattle.json_grammar.specs.declared.Spot.TheVariants.{Colon as colon}
+use Rattle.json_grammar.specs.declared.ExpectedPart.{ExpectedPart}
+use Rattle.json_grammar.specs.declared.ExpectedPart.TheVariants.{Colon as colon}
 use Rattle.json_grammar.specs.Tree.{Tree, null, boolean, num, Token, key_token}
 use Rattle.json_grammar.specs.Grammar.{number, string, value}
 use Rattle.json_grammar.specs.Place.{TakesValue, TakesKey, viable_prefix, reading, read_value, read_key}
-use Rattle.json_grammar.specs.Given.{piece, LastEnds, PrefixAt, NamesTold, NoNameEnds}
+use Rattle.json_grammar.specs.Given.{piece, LastEnds, PrefixAt, NamesReturned, NoNameEnds}
 use Rattle.json_grammar.specs.Levels.{peak}
 use Rattle.json_grammar.specs.Fault.{opens, FaultCode, eof_while_parsing, recursion_limit_exceeded, duplicate_key, is_word, fault, row, longest}
 use Rattle.json_grammar.specs.Repeated.{open_keys, TokensRepeat, repeated}
@@ -34,13 +34,13 @@ key_more : (us m : List Token) (x : Token) → us ≡ (us ++ x ∷ []) ++ m → 
 key_more us m x e = cons_nil x m (no_more us ((x ∷ []) ++ m) (e ∙ append_assoc us (x ∷ []) m))
 
 -- where a number goes no further with more bytes it does not with fewer
-ends_front : (w : Spot) (ts : List Token) (z r : List ℕ) → LastEnds w ts (z ++ r) → LastEnds w ts z
+ends_front : (w : ExpectedPart) (ts : List Token) (z r : List ℕ) → LastEnds w ts (z ++ r) → LastEnds w ts z
 ends_front w ts z r h e l a f x m n g i = h e l a f x (m ++ r) n (ap (λ o. o ++ r) g) i
 
 module _ (lossy : Bool) where
   -- ---- one name more
 
-  pub key_repeats : {c : List Kind} {w : Spot} {ts : List Token} (q v s : List ℕ)
+  pub key_repeats : {c : List Kind} {w : ExpectedPart} {ts : List Token} (q v s : List ℕ)
       → reading lossy q c w ts
       → TakesKey w
       → string lossy s v
@@ -75,7 +75,7 @@ module _ (lossy : Bool) where
           by (inr g) = inr g.0
 
   -- a name that repeats is refused at once, whatever follows it
-  pub name_refused : {c : List Kind} {w : Spot} {ts : List Token} (r : Rules) (q v rest s : List ℕ)
+  pub name_refused : {c : List Kind} {w : ExpectedPart} {ts : List Token} (r : Rules) (q v rest s : List ℕ)
       → r.unique ≡ true
       → reading lossy q c w ts
       → TakesKey w
@@ -98,7 +98,7 @@ module _ (lossy : Bool) where
       by y a (inr x) = omega arith
 
   -- so of the name from j up to n
-  pub key_refused : (r : Rules) (b : List ℕ) (j n : ℕ) (c : List Kind) (w : Spot) (ts : List Token) (s : List ℕ)
+  pub key_refused : (r : Rules) (b : List ℕ) (j n : ℕ) (c : List Kind) (w : ExpectedPart) (ts : List Token) (s : List ℕ)
       → r.unique ≡ true
       → reading lossy (take j b) c w ts
       → TakesKey w
@@ -118,9 +118,9 @@ module _ (lossy : Bool) where
   -- ---- a fault for the limit of levels
 
   -- a name that is whole before k was returned
-  told_name : (b p z : List ℕ) (i k j : ℕ) (c : List Kind) (w : Spot) (ts : List Token)
+  told_name : (b p z : List ℕ) (i k j : ℕ) (c : List Kind) (w : ExpectedPart) (ts : List Token)
       → reading lossy (take i b) c w ts
-      → NamesTold lossy b i k
+      → NamesReturned lossy b i k
       → b ≡ p ++ z
       → length p ≤ k
       → repeated lossy p j
@@ -158,20 +158,20 @@ module _ (lossy : Bool) where
               take_on b (j + length a.v) i taken ∙ ap (λ y. y ++ piece b (j + length a.v) i) (take_on b j (j + length a.v) (omega arith)) ∙ append_assoc (take j b) (piece b j (j + length a.v)) (piece b (j + length a.v) i)
               ∙ ap (λ y. y ++ (piece b j (j + length a.v) ++ piece b (j + length a.v) i)) q_is ∙ ap (λ y. a.q ++ (y ++ piece b (j + length a.v) i)) v_is
 
-  row_stands : (r : Rules) (b : List ℕ) (i : ℕ) (c : List Kind) (w : Spot) (ts : List Token) (code : FaultCode) (k : ℕ)
+  row_stands : (r : Rules) (b : List ℕ) (i : ℕ) (c : List Kind) (w : ExpectedPart) (ts : List Token) (code : FaultCode) (k : ℕ)
       → reading lossy (take i b) c w ts
       → (r.unique ≡ true → ¬ (TokensRepeat ts))
-      → (r.unique ≡ true → NamesTold lossy b i k)
+      → (r.unique ≡ true → NamesReturned lossy b i k)
       → (p : List ℕ) × (x : ℕ) × longest (viable_prefix lossy) b p x × (length p ≡ k) × (opens p ≤ r.limit) × row lossy code p x
       → r.unique ≡ true
       → (j : ℕ)
       → ¬ (repeated lossy b j)
   row_stands r b i c w ts code k g f told (p, x, l, o, v, s) u j h = f u (told_name b p (x ∷ l.rest) i k j c w ts g (told u) l.bytes (omega arith) (in_longest lossy b p x l.rest j l.bytes l.no_longer h))
 
-  pub fault_stands : (r : Rules) (b : List ℕ) (i : ℕ) (c : List Kind) (w : Spot) (ts : List Token) (code : FaultCode) (k : ℕ)
+  pub fault_stands : (r : Rules) (b : List ℕ) (i : ℕ) (c : List Kind) (w : ExpectedPart) (ts : List Token) (code : FaultCode) (k : ℕ)
       → reading lossy (take i b) c w ts
       → (r.unique ≡ true → ¬ (TokensRepeat ts))
-      → (r.unique ≡ true → NamesTold lossy b i k)
+      → (r.unique ≡ true → NamesReturned lossy b i k)
       → fault lossy r.limit b code k
       → fault_with lossy r b code k
   fault_stands r b i c w ts duplicate_key k g f told (p, x, l, o, v, s) = absurd s
@@ -182,13 +182,13 @@ module _ (lossy : Bool) where
 
   -- ---- each name was returned
 
-  pub names_told : (b : List ℕ) (i j k : ℕ) (c c' : List Kind) (w w' : Spot) (ts : List Token)
+  pub names_told : (b : List ℕ) (i j k : ℕ) (c c' : List Kind) (w w' : ExpectedPart) (ts : List Token)
       → PrefixAt lossy b i c w ts
       → i ≤ j
       → j ≤ length b
       → reading lossy (take j b) c' w' ts
       → NoNameEnds lossy b j k
-      → NamesTold lossy b i k
+      → NamesReturned lossy b i k
   names_told b i j k c c' w w' ts g ij jb h none j' n cn wn us s jn nk nb hn tn sn = by (cases_lt i n) (cases_lt j n)
     where
       name : reading lossy (take n b) cn colon (us ++ key_token s ∷ [])
@@ -227,7 +227,7 @@ module _ (lossy : Bool) where
   word_value m (inr (inr e)) = (boolean false, e)
 
   -- after a whole value no name ends
-  value_no_name : {q : List ℕ} {c c' : List Kind} {w : Spot} {ts ts' : List Token} (v : List ℕ) (t : Tree)
+  value_no_name : {q : List ℕ} {c c' : List Kind} {w : ExpectedPart} {ts ts' : List Token} (v : List ℕ) (t : Tree)
       → reading lossy q c w ts
       → TakesValue w
       → value lossy t v
@@ -235,7 +235,7 @@ module _ (lossy : Bool) where
       → ⊥
   value_no_name v t h n i g = colon_not_done (sym (one_place lossy (read_value t h n (v, [], sym (append-nil v), i, tt)) g).1)
 
-  pub word_no_name : (b : List ℕ) (j k : ℕ) (c : List Kind) (w : Spot) (ts : List Token)
+  pub word_no_name : (b : List ℕ) (j k : ℕ) (c : List Kind) (w : ExpectedPart) (ts : List Token)
       → k ≤ length b
       → j ≤ k
       → reading lossy (take j b) c w ts
@@ -258,7 +258,7 @@ module _ (lossy : Bool) where
       by (inl e) = let v = word_value (piece b j n) (subst is_word (ap (λ y. piece b j n ++ y) e ∙ append-nil (piece b j n)) row) in value_no_name (piece b j n) v.0 h t v.1 at
       by (inr e) = word_no_place lossy (take j b ++ piece b j n) c' colon us (record { q = take j b; r = piece b j n; rest = piece b n k ++ z; bytes = refl; at = (c, w, (ts, h), t); word = row; begun = some; unfinished = e }) at
 
-  pub number_no_name : (b : List ℕ) (j k : ℕ) (c : List Kind) (w : Spot) (ts : List Token)
+  pub number_no_name : (b : List ℕ) (j k : ℕ) (c : List Kind) (w : ExpectedPart) (ts : List Token)
       → k ≤ length b
       → j ≤ k
       → reading lossy (take j b) c w ts
@@ -282,7 +282,7 @@ module _ (lossy : Bool) where
       at : reading lossy (take j b ++ piece b j n) c' colon us
       at = subst (λ y. reading lossy y c' colon us) (take_on b j n (omega arith)) g
 
-  pub string_no_name : (b : List ℕ) (j k : ℕ) (c : List Kind) (w : Spot) (ts : List Token)
+  pub string_no_name : (b : List ℕ) (j k : ℕ) (c : List Kind) (w : ExpectedPart) (ts : List Token)
       → k ≤ length b
       → j ≤ k
       → reading lossy (take j b) c w ts

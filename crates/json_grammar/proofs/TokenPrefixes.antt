@@ -3,7 +3,7 @@ use Rattle.std.proofs.Common.{◌≡◌, ℕ, Bool, List, [], ◌∷◌, ◌++�
 use Rattle.json_grammar.specs.declared.Kind.{Kind}
 use Rattle.json_grammar.specs.declared.Kind.TheVariants.{Array as array, Object as object}
 use Rattle.json_grammar.specs.Tree.{Tree, null, boolean, num, text, list, pairs, Trees, no_trees, tree_and, Pairs, no_pairs, pair_and, Token, null_token, boolean_token, num_token, text_token, begin, end, key_token, tokens, trees_tokens, pairs_tokens}
-use Rattle.json_grammar.specs.declared.Spot.{Spot}
+use Rattle.json_grammar.specs.declared.ExpectedPart.{ExpectedPart}
 use Rattle.json_grammar.specs.Place.{reading}
 use Rattle.json_grammar.specs.TokenStates.{TokenState, a_value, initial_state, expected_in, state_in, after_tokens, ValueMayCome, NameMayCome, EndMayCome, MayCome, Accepts, BeginsTree}
 use Rattle.json_grammar.proofs.TokenStates.{accepts_append, accepts_front, accepts_back, nothing_after, after_tree, accepts_tree, place_accepts}
@@ -109,5 +109,5 @@ pub tree_whole : (ts : List Token) (t : Tree) → tokens t ≡ ts → Accepts in
 tree_whole ts t e = (subst (Accepts initial_state) e (accepts_tree initial_state t tt), ap (after_tokens initial_state) (sym e) ∙ after_tree initial_state t)
 
 -- what is read of a prefix of a text begins the tokens of a tree
-pub reading_begins : {lossy : Bool} {p : List ℕ} {c : List Kind} {w : Spot} {ts : List Token} → reading lossy p c w ts → BeginsTree ts
+pub reading_begins : {lossy : Bool} {p : List ℕ} {c : List Kind} {w : ExpectedPart} {ts : List Token} → reading lossy p c w ts → BeginsTree ts
 reading_begins {ts = ts} h = accepted_begins ts (place_accepts h)

@@ -3,8 +3,8 @@ use Rattle.std.proofs.Common.{◌≡◌, ◌≢◌, Bool, ℕ, List, [], ◌∷�
 use Rattle.std.specs.Prelude.{◌↔◌}
 use Rattle.json_grammar.specs.declared.Kind.{Kind}
 use Rattle.json_grammar.specs.declared.Kind.TheVariants.{Array as array, Object as object}
-use Rattle.json_grammar.specs.declared.Spot.{Spot}
-use Rattle.json_grammar.specs.declared.Spot.TheVariants.{Value as at_value, First as first, Key as key, KeyOrEnd as key_or_end, Colon as colon, Done as done}
+use Rattle.json_grammar.specs.declared.ExpectedPart.{ExpectedPart}
+use Rattle.json_grammar.specs.declared.ExpectedPart.TheVariants.{Value as at_value, First as first, Key as key, KeyOrEnd as key_or_end, Colon as colon, Done as done}
 use Rattle.json_grammar.specs.Tree.{Tree, null, boolean, num, text, list, pairs, Trees, no_trees, tree_and, Pairs, no_pairs, pair_and, Token, null_token, boolean_token, num_token, text_token, begin, end, key_token, tokens, trees_tokens, pairs_tokens}
 use Rattle.json_grammar.specs.Place.{outside, reading, start, open_one, read_value, read_comma, read_key, read_colon, TakesValue, takes_at_value, takes_first, TakesKey, takes_key, takes_key_or_end, opened, after_comma}
 use Rattle.json_grammar.specs.TokenStates.{TokenState, Expected, a_value, nothing, initial_state, state_in, state_after_value, after_token, after_tokens, ValueMayCome, NameMayCome, MayCome, Accepts, expected_at, state_at}
@@ -139,12 +139,12 @@ mutual
 
 -- ---- the places of a text
 
-no_name : {w : Spot} → TakesKey w → w ≢ key → w ≢ key_or_end → ⊥
+no_name : {w : ExpectedPart} → TakesKey w → w ≢ key → w ≢ key_or_end → ⊥
 no_name takes_key n m = n refl
 no_name takes_key_or_end n m = m refl
 
 -- a name may begin in an object alone
-pub name_in_object : {lossy : Bool} {p : List ℕ} {c : List Kind} {w : Spot} {ts : List Token} → reading lossy p c w ts → TakesKey w → (d : List Kind) × (c ≡ object ∷ d)
+pub name_in_object : {lossy : Bool} {p : List ℕ} {c : List Kind} {w : ExpectedPart} {ts : List Token} → reading lossy p c w ts → TakesKey w → (d : List Kind) × (c ≡ object ∷ d)
 name_in_object (start h) k = absurd (no_name k (λ e. cc) (λ e. cc))
 name_in_object (open_one array h t q) k = absurd (no_name k (λ e. cc) (λ e. cc))
 name_in_object (open_one {c = c} object h t q) k = (c, refl)
@@ -162,7 +162,7 @@ comma_state : (k : Kind) (c : List Kind) → state_at done (k ∷ c) ≡ state_a
 comma_state array c = refl
 comma_state object c = refl
 
-pub place_state : {lossy : Bool} {p : List ℕ} {c : List Kind} {w : Spot} {ts : List Token} → reading lossy p c w ts → after_tokens initial_state ts ≡ state_at w c
+pub place_state : {lossy : Bool} {p : List ℕ} {c : List Kind} {w : ExpectedPart} {ts : List Token} → reading lossy p c w ts → after_tokens initial_state ts ≡ state_at w c
 place_state (start h) = refl
 place_state (open_one {c = c} {ts = ts} k h t q) = after_append initial_state ts (begin k ∷ []) ∙ ap (λ (z : TokenState). state_in (k ∷ z.opened)) (place_state h) ∙ open_state k c
 place_state (read_value {ts = ts} t h n q) = after_append initial_state ts (tokens t) ∙ after_tree (after_tokens initial_state ts) t ∙ ap (λ (z : TokenState). state_after_value z) (place_state h)
@@ -173,21 +173,21 @@ place_state (read_key {c = c} {ts = ts} s h n q) =
     after_append initial_state ts (key_token s ∷ []) ∙ ap (λ (z : TokenState). after_token z (key_token s)) (place_state h) ∙ f e.0 e.1
 place_state (read_colon h q) = place_state h
 
-value_there : (w : Spot) (c : List Kind) → TakesValue w → ValueMayCome (expected_at w c)
+value_there : (w : ExpectedPart) (c : List Kind) → TakesValue w → ValueMayCome (expected_at w c)
 value_there w [] takes_at_value = tt
 value_there w (array ∷ c) takes_at_value = tt
 value_there w (object ∷ c) takes_at_value = tt
 value_there w c takes_first = tt
 
-name_there : (w : Spot) (c : List Kind) → TakesKey w → NameMayCome (expected_at w c)
+name_there : (w : ExpectedPart) (c : List Kind) → TakesKey w → NameMayCome (expected_at w c)
 name_there w c takes_key = tt
 name_there w c takes_key_or_end = tt
 
 -- what holds at the place holds after its tokens
-after_place : (w : Spot) (c : List Kind) (z : TokenState) → z ≡ state_at w c → (P : Expected → Type 0) → P (expected_at w c) → P z.expected
+after_place : (w : ExpectedPart) (c : List Kind) (z : TokenState) → z ≡ state_at w c → (P : Expected → Type 0) → P (expected_at w c) → P z.expected
 after_place w c z e P h = subst (λ (y : TokenState). P y.expected) (sym e) h
 
-pub place_accepts : {lossy : Bool} {p : List ℕ} {c : List Kind} {w : Spot} {ts : List Token} → reading lossy p c w ts → Accepts initial_state ts
+pub place_accepts : {lossy : Bool} {p : List ℕ} {c : List Kind} {w : ExpectedPart} {ts : List Token} → reading lossy p c w ts → Accepts initial_state ts
 place_accepts (start h) = tt
 place_accepts (open_one {c = c} {w = w} {ts = ts} k h t q) =
     accepts_append initial_state ts (begin k ∷ []) (place_accepts h) (after_place w c (after_tokens initial_state ts) (place_state h) ValueMayCome (value_there w c t), tt)
@@ -200,7 +200,7 @@ place_accepts (read_key {c = c} {w = w} {ts = ts} s h n q) =
 place_accepts (read_colon h q) = place_accepts h
 
 -- nothing may follow after a whole value alone
-pub whole_place : (w : Spot) (c : List Kind) → expected_at w c ≡ nothing → (w ≡ done) × (c ≡ [])
+pub whole_place : (w : ExpectedPart) (c : List Kind) → expected_at w c ≡ nothing → (w ≡ done) × (c ≡ [])
 whole_place done [] e = (refl, refl)
 whole_place done (array ∷ c) e = absurd (cc)
 whole_place done (object ∷ c) e = absurd (cc)

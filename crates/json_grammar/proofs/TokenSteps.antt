@@ -2,8 +2,8 @@
 use Rattle.std.proofs.Common.{Bool, ◌≡◌, ℕ, List, [], ◌∷◌, ◌++◌, refl, sym, ap, ◌∙◌, subst, append_assoc, append-nil}
 use Rattle.json_grammar.specs.declared.Kind.{Kind}
 use Rattle.json_grammar.specs.declared.Kind.TheVariants.{Array as array, Object as object}
-use Rattle.json_grammar.specs.declared.Spot.{Spot}
-use Rattle.json_grammar.specs.declared.Spot.TheVariants.{Value as at_value, First as first, Key as key, KeyOrEnd as key_or_end, Colon as colon, Done as done}
+use Rattle.json_grammar.specs.declared.ExpectedPart.{ExpectedPart}
+use Rattle.json_grammar.specs.declared.ExpectedPart.TheVariants.{Value as at_value, First as first, Key as key, KeyOrEnd as key_or_end, Colon as colon, Done as done}
 use Rattle.json_grammar.specs.Tree.{Tree, null, boolean, num, text, list, pairs, Trees, no_trees, tree_and, Pairs, no_pairs, pair_and, Token, begin, end, key_token, tokens, trees_tokens, pairs_tokens}
 use Rattle.json_grammar.specs.Grammar.{ws, string, value, elements, more_elements, members, more_members}
 use Rattle.json_grammar.specs.Place.{TakesValue, takes_at_value, takes_first, TakesKey, takes_key, takes_key_or_end, TakesEnd, end_first, end_key_or_end, end_done, bracket, closing, opened, after_comma, reading, start, open_one, read_value, read_comma, read_key, read_colon}
@@ -21,30 +21,30 @@ IsScalar (pairs ps) = ⊥
 
 -- the open containers after the prefix, the innermost first, its state and its tokens: as
 -- `reading`, but by one token or some whitespace at a time
-pub data TokenSteps (lossy : Bool) : List ℕ → List Kind → Spot → List Token → Type 0 where
+pub data TokenSteps (lossy : Bool) : List ℕ → List Kind → ExpectedPart → List Token → Type 0 where
   at_start : TokenSteps lossy [] [] at_value []
-  by_space : {p : List ℕ} {c : List Kind} {w : Spot} {ts : List Token} (z : List ℕ)
+  by_space : {p : List ℕ} {c : List Kind} {w : ExpectedPart} {ts : List Token} (z : List ℕ)
       → TokenSteps lossy p c w ts
       → ws z
       → TokenSteps lossy (p ++ z) c w ts
-  by_bracket : {p : List ℕ} {c : List Kind} {w : Spot} {ts : List Token} (k : Kind)
+  by_bracket : {p : List ℕ} {c : List Kind} {w : ExpectedPart} {ts : List Token} (k : Kind)
       → TokenSteps lossy p c w ts
       → TakesValue w
       → TokenSteps lossy (p ++ bracket k ∷ []) (k ∷ c) (opened k) (ts ++ begin k ∷ [])
-  by_scalar : {p : List ℕ} {c : List Kind} {w : Spot} {ts : List Token} (t : Tree) (v : List ℕ)
+  by_scalar : {p : List ℕ} {c : List Kind} {w : ExpectedPart} {ts : List Token} (t : Tree) (v : List ℕ)
       → IsScalar t
       → TokenSteps lossy p c w ts
       → TakesValue w
       → value lossy t v
       → TokenSteps lossy (p ++ v) c done (ts ++ tokens t)
-  by_end : {p : List ℕ} {c : List Kind} {w : Spot} {ts : List Token} (k : Kind)
+  by_end : {p : List ℕ} {c : List Kind} {w : ExpectedPart} {ts : List Token} (k : Kind)
       → TokenSteps lossy p (k ∷ c) w ts
       → TakesEnd k w
       → TokenSteps lossy (p ++ closing k ∷ []) c done (ts ++ end k ∷ [])
   by_comma : {p : List ℕ} {c : List Kind} {ts : List Token} (k : Kind)
       → TokenSteps lossy p (k ∷ c) done ts
       → TokenSteps lossy (p ++ 44 ∷ []) (k ∷ c) (after_comma k) ts
-  by_key : {p : List ℕ} {c : List Kind} {w : Spot} {ts : List Token} (s v : List ℕ)
+  by_key : {p : List ℕ} {c : List Kind} {w : ExpectedPart} {ts : List Token} (s v : List ℕ)
       → TokenSteps lossy p c w ts
       → TakesKey w
       → string lossy s v
@@ -54,7 +54,7 @@ pub data TokenSteps (lossy : Bool) : List ℕ → List Kind → Spot → List To
       → TokenSteps lossy (p ++ 58 ∷ []) c at_value ts
 
 module _ (lossy : Bool) where
-  pub steps_reading : {p : List ℕ} {c : List Kind} {w : Spot} {ts : List Token}
+  pub steps_reading : {p : List ℕ} {c : List Kind} {w : ExpectedPart} {ts : List Token}
       → TokenSteps lossy p c w ts
       → reading lossy p c w ts
   steps_reading at_start = start tt
@@ -67,18 +67,18 @@ module _ (lossy : Bool) where
   steps_reading (by_colon h) = read_colon (steps_reading h) (58 ∷ [], [], refl, refl, tt)
 
   -- after p and u, and then a, is after p and both
-  past : (p u a b : List ℕ) (c : List Kind) (w : Spot) (ts : List Token)
+  past : (p u a b : List ℕ) (c : List Kind) (w : ExpectedPart) (ts : List Token)
       → b ≡ u ++ a
       → TokenSteps lossy ((p ++ u) ++ a) c w ts
       → TokenSteps lossy (p ++ b) c w ts
   past p u a b c w ts e h = subst (λ o. TokenSteps lossy o c w ts) (append_assoc p u a ∙ ap (λ o. p ++ o) (sym e)) h
 
-  telling : (p : List ℕ) (c : List Kind) (w : Spot) (ts us vs : List Token)
+  telling : (p : List ℕ) (c : List Kind) (w : ExpectedPart) (ts us vs : List Token)
       → TokenSteps lossy p c w ((ts ++ us) ++ vs)
       → TokenSteps lossy p c w (ts ++ (us ++ vs))
   telling p c w ts us vs h = subst (TokenSteps lossy p c w) (append_assoc ts us vs) h
 
-  nothing_more : (p : List ℕ) (c : List Kind) (w : Spot) (ts : List Token) (z : List ℕ)
+  nothing_more : (p : List ℕ) (c : List Kind) (w : ExpectedPart) (ts : List Token) (z : List ℕ)
       → z ≡ []
       → TokenSteps lossy p c w ts
       → TokenSteps lossy (p ++ z) c w (ts ++ [])
@@ -86,7 +86,7 @@ module _ (lossy : Bool) where
       subst (λ o. TokenSteps lossy o c w (ts ++ [])) (sym (append-nil p) ∙ ap (λ o. p ++ o) (sym e)) (subst (TokenSteps lossy p c w) (sym (append-nil ts)) h)
 
   abbrev ValueSteps : Tree → Type 0
-  ValueSteps t = (p v : List ℕ) (c : List Kind) (w : Spot) (ts : List Token) → TokenSteps lossy p c w ts → TakesValue w → value lossy t v → TokenSteps lossy (p ++ v) c done (ts ++ tokens t)
+  ValueSteps t = (p v : List ℕ) (c : List Kind) (w : ExpectedPart) (ts : List Token) → TokenSteps lossy p c w ts → TakesValue w → value lossy t v → TokenSteps lossy (p ++ v) c done (ts ++ tokens t)
 
   abbrev MoreSteps : Trees → Type 0
   MoreSteps us = (p z : List ℕ) (c : List Kind) (ts : List Token) → TokenSteps lossy p (array ∷ c) done ts → more_elements lossy us z → TokenSteps lossy (p ++ z) (array ∷ c) done (ts ++ trees_tokens us)
@@ -97,7 +97,7 @@ module _ (lossy : Bool) where
   elements_by : (t : Tree) (us : Trees)
       → ValueSteps t
       → MoreSteps us
-      → (p b : List ℕ) (c : List Kind) (w : Spot) (ts : List Token)
+      → (p b : List ℕ) (c : List Kind) (w : ExpectedPart) (ts : List Token)
       → TokenSteps lossy p (array ∷ c) w ts
       → TakesValue w
       → elements lossy (tree_and t us) b
@@ -109,7 +109,7 @@ module _ (lossy : Bool) where
   members_by : (s : List ℕ) (t : Tree) (us : Pairs)
       → ValueSteps t
       → MoreMembersSteps us
-      → (p b : List ℕ) (c : List Kind) (w : Spot) (ts : List Token)
+      → (p b : List ℕ) (c : List Kind) (w : ExpectedPart) (ts : List Token)
       → TokenSteps lossy p (object ∷ c) w ts
       → TakesKey w
       → members lossy (pair_and s t us) b
@@ -124,7 +124,7 @@ module _ (lossy : Bool) where
       (f _ v (object ∷ c) at_value (ts ++ key_token s ∷ []) (by_space u' (by_colon (by_space x (by_key s k (by_space u h hu) n hk) hx)) hu') takes_at_value hv)) hz) hm))))))))
 
   mutual
-    pub value_steps : (t : Tree) (p v : List ℕ) (c : List Kind) (w : Spot) (ts : List Token)
+    pub value_steps : (t : Tree) (p v : List ℕ) (c : List Kind) (w : ExpectedPart) (ts : List Token)
         → TokenSteps lossy p c w ts
         → TakesValue w
         → value lossy t v
@@ -176,21 +176,21 @@ module _ (lossy : Bool) where
         past p (44 ∷ []) q z (object ∷ c) done _ (e ∙ ap (λ o. o ++ q) hx) (members_by s t us (value_steps t) (more_members_steps us) (p ++ 44 ∷ []) q c key ts (by_comma object h) takes_key i)
 
   -- members after an object's beginning, at least one
-  pub some_members_steps : (s : List ℕ) (t : Tree) (us : Pairs) (p b : List ℕ) (c : List Kind) (w : Spot) (ts : List Token)
+  pub some_members_steps : (s : List ℕ) (t : Tree) (us : Pairs) (p b : List ℕ) (c : List Kind) (w : ExpectedPart) (ts : List Token)
       → TokenSteps lossy p (object ∷ c) w ts
       → TakesKey w
       → members lossy (pair_and s t us) b
       → TokenSteps lossy (p ++ b) (object ∷ c) done (ts ++ pairs_tokens (pair_and s t us))
   some_members_steps s t us p b c w ts h n i = members_by s t us (value_steps t) (more_members_steps us) p b c w ts h n i
 
-  spaced : (p b z q : List ℕ) (c : List Kind) (w : Spot) (ts : List Token)
+  spaced : (p b z q : List ℕ) (c : List Kind) (w : ExpectedPart) (ts : List Token)
       → q ≡ b ++ z
       → ws z
       → TokenSteps lossy (p ++ b) c w ts
       → TokenSteps lossy (p ++ q) c w ts
   spaced p b z q c w ts e i h = past p b z q c w ts e (by_space z h i)
 
-  pub reading_steps : {p : List ℕ} {c : List Kind} {w : Spot} {ts : List Token}
+  pub reading_steps : {p : List ℕ} {c : List Kind} {w : ExpectedPart} {ts : List Token}
       → reading lossy p c w ts
       → TokenSteps lossy p c w ts
   reading_steps (start {p = p} h) = by_space p at_start h

@@ -137,8 +137,8 @@ abbrev pub SmallTreeCounted : Type 0
 SmallTreeCounted = (depth small_tree ≡ 3) × (nodes small_tree ≡ 5) × (tree_text_bytes small_tree ≡ 2)
 
 -- its tokens, from left to right
-abbrev pub SmallTreeTold : Type 0
-SmallTreeTold =
+abbrev pub SmallTreeTokens : Type 0
+SmallTreeTokens =
     tokens small_tree
     ≡ begin object ∷ key_token (codes "a") ∷ begin array ∷ num_token (codes "1") ∷ begin object ∷ end object ∷ end array ∷ end object ∷ []
 

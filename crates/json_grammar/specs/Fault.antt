@@ -8,8 +8,8 @@ use Rattle.json_grammar.specs.declared.Kind.{Kind}
 use Rattle.json_grammar.specs.declared.Kind.TheVariants.{Array as array, Object as object}
 use Rattle.json_grammar.specs.Tree.{Tree, num}
 use Rattle.json_grammar.specs.Grammar.{ws, IsDigit, number, hex4, IsHighSurrogate, chars, Atom, null_bytes, boolean_bytes, ◌then◌, value, is_text}
-use Rattle.json_grammar.specs.declared.Spot.{Spot}
-use Rattle.json_grammar.specs.declared.Spot.TheVariants.{Key as key, KeyOrEnd as key_or_end, Colon as colon, Done as done}
+use Rattle.json_grammar.specs.declared.ExpectedPart.{ExpectedPart}
+use Rattle.json_grammar.specs.declared.ExpectedPart.TheVariants.{Key as key, KeyOrEnd as key_or_end, Colon as colon, Done as done}
 use Rattle.json_grammar.specs.Place.{TakesValue, TakesKey, place, viable_prefix}
 use Rattle.json_grammar.specs.NumberEnds.{TreeEnds}
 
@@ -112,11 +112,11 @@ too_deep viable limit b k =
 module _ (lossy : Bool) where
   -- a value may begin after q
   abbrev pub before_value : List ℕ → Type 0
-  before_value q = (c : List Kind) × (w : Spot) × place lossy q c w × TakesValue w
+  before_value q = (c : List Kind) × (w : ExpectedPart) × place lossy q c w × TakesValue w
 
   -- a value or a key may begin after q
   abbrev pub before_string : List ℕ → Type 0
-  before_string q = (c : List Kind) × (w : Spot) × place lossy q c w × (TakesValue w ⊎ TakesKey w)
+  before_string q = (c : List Kind) × (w : ExpectedPart) × place lossy q c w × (TakesValue w ⊎ TakesKey w)
 
   -- p ends in r, which begins a literal name and is not the whole of it
   pub record in_word (p : List ℕ) : Type 0 where
@@ -197,12 +197,12 @@ module _ (lossy : Bool) where
   -- text begins with p
   abbrev pub faulty : ℕ → List ℕ → FaultCode → ℕ → Type 0
   faulty limit b recursion_limit_exceeded k =
-      (p : List ℕ) × (x : ℕ) × (rest : List ℕ) × (c : List Kind) × (w : Spot) × (b ≡ p ++ x ∷ rest) × (length p ≡ k) × place lossy (p ++ x ∷ []) c w
+      (p : List ℕ) × (x : ℕ) × (rest : List ℕ) × (c : List Kind) × (w : ExpectedPart) × (b ≡ p ++ x ∷ rest) × (length p ≡ k) × place lossy (p ++ x ∷ []) c w
       × (opens p ≤ limit)
       × (limit < opens (p ++ x ∷ []))
   faulty limit b eof_while_parsing k =
       (k ≡ length b)
-      × (((c : List Kind) × (w : Spot) × place lossy b c w) ⊎ (in_word b ⊎ (in_number b ⊎ ((e : List ℕ) × in_string b e))))
+      × (((c : List Kind) × (w : ExpectedPart) × place lossy b c w) ⊎ (in_word b ⊎ (in_number b ⊎ ((e : List ℕ) × in_string b e))))
       × (opens b ≤ limit)
       × ((t : Tree) → ¬ (is_text lossy t b))
   faulty limit b code k =

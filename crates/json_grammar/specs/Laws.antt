@@ -1,8 +1,8 @@
 -- Laws of the grammar, for its readers: what its definitions promise together.
 use Rattle.std.specs.Prelude.{◌≡◌, ℕ, ◌+◌, ◌/◌, ◌≤◌, List, [], ◌++◌, length, drop, Bool, true, false, ◌⊎◌, IsUtf8}
 use Rattle.json_grammar.specs.declared.Kind.{Kind}
-use Rattle.json_grammar.specs.declared.Spot.{Spot}
-use Rattle.json_grammar.specs.declared.Spot.TheVariants.{Done as done}
+use Rattle.json_grammar.specs.declared.ExpectedPart.{ExpectedPart}
+use Rattle.json_grammar.specs.declared.ExpectedPart.TheVariants.{Done as done}
 use Rattle.json_grammar.specs.Tree.{Tree, depth, Token, tokens}
 use Rattle.json_grammar.specs.Grammar.{ws, is_text}
 use Rattle.json_grammar.specs.Place.{viable_prefix, place, reading}
@@ -39,13 +39,13 @@ abbrev pub OpensIsDepth : Type 0
 OpensIsDepth =
     (lossy : Bool)
     → ((t : Tree) (b : List ℕ) → is_text lossy t b → opens b ≡ depth t)
-    × ((p : List ℕ) (c : List Kind) (w : Spot) (ts : List Token) → reading lossy p c w ts → opens p ≡ peak 0 ts)
+    × ((p : List ℕ) (c : List Kind) (w : ExpectedPart) (ts : List Token) → reading lossy p c w ts → opens p ≡ peak 0 ts)
 
 -- ---- prefixes
 
 -- what is at a place is a viable prefix: some text begins with it
 abbrev pub PlaceIsViable : Type 0
-PlaceIsViable = (lossy : Bool) (p : List ℕ) (c : List Kind) (w : Spot) (ts : List Token) → reading lossy p c w ts → viable_prefix lossy p
+PlaceIsViable = (lossy : Bool) (p : List ℕ) (c : List Kind) (w : ExpectedPart) (ts : List Token) → reading lossy p c w ts → viable_prefix lossy p
 
 -- what ends within a literal name, a number or a string is one too
 abbrev pub TokenIsViable : Type 0
@@ -54,7 +54,7 @@ TokenIsViable = (lossy : Bool) (p : List ℕ) → in_word lossy p ⊎ (in_number
 -- a prefix is at one place at most, and has one row of tokens
 abbrev pub OnePlace : Type 0
 OnePlace =
-    (lossy : Bool) (p : List ℕ) (c c' : List Kind) (w w' : Spot) (ts ts' : List Token)
+    (lossy : Bool) (p : List ℕ) (c c' : List Kind) (w w' : ExpectedPart) (ts ts' : List Token)
     → reading lossy p c w ts
     → reading lossy p c' w' ts'
     → (c ≡ c') × (w ≡ w') × (ts ≡ ts')
@@ -62,7 +62,7 @@ OnePlace =
 -- the tokens so far begin those of each text that begins so, and that text has no fewer levels
 abbrev pub EventsBegin : Type 0
 EventsBegin =
-    (lossy : Bool) (p r : List ℕ) (c : List Kind) (w : Spot) (ts : List Token) (t : Tree)
+    (lossy : Bool) (p r : List ℕ) (c : List Kind) (w : ExpectedPart) (ts : List Token) (t : Tree)
     → reading lossy p c w ts
     → LastEnds w ts r
     → is_text lossy t (p ++ r)
@@ -102,14 +102,14 @@ TextFits = (lossy : Bool) (t : Tree) (b : List ℕ) → is_text lossy t b → (n
 -- the tokens of a prefix bring no more nodes than it has bytes, and no more bytes of strings, names and literals
 abbrev pub PrefixFits : Type 0
 PrefixFits =
-    (lossy : Bool) (p : List ℕ) (c : List Kind) (w : Spot) (ts : List Token)
+    (lossy : Bool) (p : List ℕ) (c : List Kind) (w : ExpectedPart) (ts : List Token)
     → reading lossy p c w ts
     → (nodes_of ts ≤ length p) × (bytes_of ts ≤ length p)
 
 -- the tokens of a prefix of a text bring no more nodes than the text may have
 abbrev pub EventsFit : Type 0
 EventsFit =
-    (lossy : Bool) (p r : List ℕ) (c : List Kind) (w : Spot) (ts : List Token) (t : Tree)
+    (lossy : Bool) (p r : List ℕ) (c : List Kind) (w : ExpectedPart) (ts : List Token) (t : Tree)
     → reading lossy p c w ts
     → LastEnds w ts r
     → is_text lossy t (p ++ r)
@@ -142,7 +142,7 @@ ViableValues =
 -- the tokens so far begin those of the value that an input reads as
 abbrev pub ValueEventsBegin : Type 0
 ValueEventsBegin =
-    (lossy : Bool) (p r : List ℕ) (c : List Kind) (w : Spot) (ts : List Token) (t : Tree) (k : ℕ)
+    (lossy : Bool) (p r : List ℕ) (c : List Kind) (w : ExpectedPart) (ts : List Token) (t : Tree) (k : ℕ)
     → reading lossy p c w ts
     → LastEnds w ts r
     → reads lossy (p ++ r) t k

@@ -3,7 +3,7 @@
 -- beginning of one token are between what was taken and that byte.
 use Rattle.std.specs.Prelude.{◌≡◌, ◌≢◌, ◌⊎◌, ℕ, ◌≤◌, List, [], ◌∷◌, ◌++◌, length, take, Bool}
 use Rattle.json_grammar.specs.declared.Kind.{Kind}
-use Rattle.json_grammar.specs.declared.Spot.{Spot}
+use Rattle.json_grammar.specs.declared.ExpectedPart.{ExpectedPart}
 use Rattle.json_grammar.specs.Tree.{Token, key_token}
 use Rattle.json_grammar.specs.Grammar.{ws, number, string}
 use Rattle.json_grammar.specs.Fault.{is_word}
@@ -14,11 +14,11 @@ use Rattle.json_grammar.specs.Given.{piece, PrefixAt}
 pub record IsGap (g : List ℕ) : Type 0 where
   pub before : List ℕ
   pub mark : List ℕ
-  pub behind : List ℕ
-  pub row : g ≡ before ++ (mark ++ behind)
+  pub after : List ℕ
+  pub row : g ≡ before ++ (mark ++ after)
   pub space_before : ws before
   pub is_mark : (mark ≡ []) ⊎ ((mark ≡ 44 ∷ []) ⊎ (mark ≡ 58 ∷ []))
-  pub space_behind : ws behind
+  pub space_behind : ws after
 
 -- r begins a literal name or a string and is not the whole of it, or begins a number and is none
 -- (sections 3, 6 and 7)
@@ -48,19 +48,19 @@ pub record NeedsByte (lossy : Bool) (zero : Type 0) (b : List ℕ) (i k : ℕ) :
 -- a gap has no token: in a prefix of some text the tokens after one are those before it
 abbrev pub GapHasNoToken : Type 0
 GapHasNoToken =
-    (lossy : Bool) (b : List ℕ) (i j : ℕ) (c : List Kind) (w : Spot) (ts : List Token)
+    (lossy : Bool) (b : List ℕ) (i j : ℕ) (c : List Kind) (w : ExpectedPart) (ts : List Token)
     → PrefixAt lossy b i c w ts
     → i ≤ j
     → IsGap (piece b i j)
     → viable_prefix lossy (take j b)
-    → (c' : List Kind) × (w' : Spot) × reading lossy (take j b) c' w' ts
+    → (c' : List Kind) × (w' : ExpectedPart) × reading lossy (take j b) c' w' ts
 
 -- where a name is the next token after a gap, the tokens before it are all that precede its opening
 -- quotation mark
-abbrev pub NameBehindGap : Type 0
-NameBehindGap =
+abbrev pub NameAfterGap : Type 0
+NameAfterGap =
     (lossy : Bool) (b : List ℕ) (i j n : ℕ)
-    (c c' : List Kind) (w w' : Spot) (ts : List Token) (s : List ℕ)
+    (c c' : List Kind) (w w' : ExpectedPart) (ts : List Token) (s : List ℕ)
     → PrefixAt lossy b i c w ts
     → i ≤ j
     → j ≤ n
@@ -68,4 +68,4 @@ NameBehindGap =
     → IsGap (piece b i j)
     → string lossy s (piece b j n)
     → reading lossy (take n b) c' w' (ts ++ key_token s ∷ [])
-    → (d : List Kind) × (v : Spot) × reading lossy (take j b) d v ts × TakesKey v
+    → (d : List Kind) × (v : ExpectedPart) × reading lossy (take j b) d v ts × TakesKey v

@@ -1,8 +1,8 @@
 -- Laws for the proofs of a reader: with which bytes no text goes on, and which fault a refusal is.
 use Rattle.std.specs.Prelude.{◌≡◌, ◌≢◌, ℕ, ◌+◌, ◌≤◌, ◌<◌, List, [], ◌∷◌, ◌++◌, length, get_or, drop, Bool, ◌⊎◌}
 use Rattle.json_grammar.specs.declared.Kind.{Kind}
-use Rattle.json_grammar.specs.declared.Spot.{Spot}
-use Rattle.json_grammar.specs.declared.Spot.TheVariants.{Done as done}
+use Rattle.json_grammar.specs.declared.ExpectedPart.{ExpectedPart}
+use Rattle.json_grammar.specs.declared.ExpectedPart.TheVariants.{Done as done}
 use Rattle.json_grammar.specs.Tree.{Tree, Token, num_token, tokens}
 use Rattle.json_grammar.specs.Grammar.{IsWhitespace, IsDigit, ws, number, Atom, Atoms, is_text}
 use Rattle.json_grammar.specs.Place.{place, reading}
@@ -16,7 +16,7 @@ use Rattle.json_grammar.specs.Fault.{opens, FaultCode, eof_while_parsing, traili
 -- no text begins so
 abbrev pub StuckAtPlace : Type 0
 StuckAtPlace =
-    (lossy : Bool) (b : List ℕ) (i j : ℕ) (c : List Kind) (w : Spot) (ts : List Token)
+    (lossy : Bool) (b : List ℕ) (i j : ℕ) (c : List Kind) (w : ExpectedPart) (ts : List Token)
     → PrefixAt lossy b i c w ts
     → i ≤ j
     → ws (piece b i j)
@@ -29,7 +29,7 @@ StuckAtPlace =
 -- within a literal name no text goes on with another byte than the name
 abbrev pub StuckInWord : Type 0
 StuckInWord =
-    (lossy : Bool) (p q z m : List ℕ) (x : ℕ) (c : List Kind) (w : Spot) (ts : List Token) (t : Tree)
+    (lossy : Bool) (p q z m : List ℕ) (x : ℕ) (c : List Kind) (w : ExpectedPart) (ts : List Token) (t : Tree)
     → reading lossy p c w ts
     → w ≢ done
     → q ≢ []
@@ -41,7 +41,7 @@ StuckInWord =
 -- within a number that is not whole no text goes on with a byte with which no number does
 abbrev pub StuckInNumber : Type 0
 StuckInNumber =
-    (lossy : Bool) (p q z m : List ℕ) (x : ℕ) (c : List Kind) (w : Spot) (ts : List Token) (t : Tree)
+    (lossy : Bool) (p q z m : List ℕ) (x : ℕ) (c : List Kind) (w : ExpectedPart) (ts : List Token) (t : Tree)
     → reading lossy p c w ts
     → w ≢ done
     → q ≢ []
@@ -53,7 +53,7 @@ StuckInNumber =
 -- within an atom of a string no text goes on with a byte with which no atom does
 abbrev pub StuckInString : Type 0
 StuckInString =
-    (lossy : Bool) (p b e z m : List ℕ) (x : ℕ) (c : List Kind) (w : Spot) (ts : List Token) (t : Tree)
+    (lossy : Bool) (p b e z m : List ℕ) (x : ℕ) (c : List Kind) (w : ExpectedPart) (ts : List Token) (t : Tree)
     → reading lossy p c w ts
     → w ≢ done
     → Atoms lossy b
@@ -95,7 +95,7 @@ FaultyIsValueFault =
 abbrev pub ValueBreaksOff : Type 0
 ValueBreaksOff =
     (lossy : Bool) (limit : ℕ) (b : List ℕ)
-    → ((c : List Kind) × (w : Spot) × place lossy b c w)
+    → ((c : List Kind) × (w : ExpectedPart) × place lossy b c w)
     ⊎ (in_word lossy b ⊎ (in_number lossy b ⊎ ((e : List ℕ) × in_string lossy b e)))
     → ¬ (place lossy b [] done)
     → opens b ≤ limit

@@ -3,11 +3,11 @@ use Rattle.std.specs.Prelude.{◌≡◌, ◌≢◌, ℕ, ◌≤◌, ◌<◌, Lis
 use Rattle.std.specs.List.{Contains}
 use Rattle.json_grammar.specs.declared.Kind.{Kind}
 use Rattle.json_grammar.specs.declared.Kind.TheVariants.{Object as object}
-use Rattle.json_grammar.specs.declared.Spot.{Spot}
+use Rattle.json_grammar.specs.declared.ExpectedPart.{ExpectedPart}
 use Rattle.json_grammar.specs.Tree.{Tree, Pairs, Token, begin, key_token, tokens, pairs_tokens}
 use Rattle.json_grammar.specs.Grammar.{number, string}
 use Rattle.json_grammar.specs.Place.{TakesValue, TakesKey, reading}
-use Rattle.json_grammar.specs.Given.{piece, PrefixAt, NamesTold, NoNameEnds}
+use Rattle.json_grammar.specs.Given.{piece, PrefixAt, NamesReturned, NoNameEnds}
 use Rattle.json_grammar.specs.Levels.{peak}
 use Rattle.json_grammar.specs.Fault.{FaultCode, duplicate_key, is_word, fault}
 use Rattle.json_grammar.specs.Repeated.{names, RepeatsKey, keys_from, open_keys, RepeatsAt, TokensRepeat, repeated}
@@ -39,7 +39,7 @@ KeyInside =
 -- what is at a place repeats a name exactly where its tokens do
 abbrev pub PlaceRepeats : Type 0
 PlaceRepeats =
-    (lossy : Bool) (p : List ℕ) (c : List Kind) (w : Spot) (ts : List Token)
+    (lossy : Bool) (p : List ℕ) (c : List Kind) (w : ExpectedPart) (ts : List Token)
     → reading lossy p c w ts
     → ((k : ℕ) × repeated lossy p k) ↔ TokensRepeat ts
 
@@ -47,7 +47,7 @@ PlaceRepeats =
 -- before it tell; no other name repeats with it
 abbrev pub KeyRepeats : Type 0
 KeyRepeats =
-    (lossy : Bool) (q v : List ℕ) (c : List Kind) (w : Spot) (ts : List Token) (s : List ℕ)
+    (lossy : Bool) (q v : List ℕ) (c : List Kind) (w : ExpectedPart) (ts : List Token) (s : List ℕ)
     → reading lossy q c w ts
     → TakesKey w
     → string lossy s v
@@ -60,7 +60,7 @@ KeyRepeats =
 abbrev pub KeyRefused : Type 0
 KeyRefused =
     (lossy : Bool) (rules : Rules) (b : List ℕ) (j n : ℕ)
-    (c : List Kind) (w : Spot) (ts : List Token) (s : List ℕ)
+    (c : List Kind) (w : ExpectedPart) (ts : List Token) (s : List ℕ)
     → rules.unique ≡ true
     → reading lossy (take j b) c w ts
     → TakesKey w
@@ -74,32 +74,32 @@ KeyRefused =
 
 -- a fault for the limit of levels is the one for the rules, where no name returned so far repeats
 -- and each name that is whole before the fault was returned
-abbrev pub FaultStands : Type 0
-FaultStands =
+abbrev pub LimitFaultByRules : Type 0
+LimitFaultByRules =
     (lossy : Bool) (rules : Rules) (b : List ℕ) (i : ℕ)
-    (c : List Kind) (w : Spot) (ts : List Token) (code : FaultCode) (k : ℕ)
+    (c : List Kind) (w : ExpectedPart) (ts : List Token) (code : FaultCode) (k : ℕ)
     → reading lossy (take i b) c w ts
     → (rules.unique ≡ true → ¬ (TokensRepeat ts))
-    → (rules.unique ≡ true → NamesTold lossy b i k)
+    → (rules.unique ≡ true → NamesReturned lossy b i k)
     → fault lossy rules.limit b code k
     → fault_with lossy rules b code k
 
 -- each name that is whole before k was returned if no more was passed since than whitespace, a
 -- comma or a colon, up to j, and no name ends after that
-abbrev pub NamesAreTold : Type 0
-NamesAreTold =
-    (lossy : Bool) (b : List ℕ) (i j k : ℕ) (c c' : List Kind) (w w' : Spot) (ts : List Token)
+abbrev pub NamesAreReturned : Type 0
+NamesAreReturned =
+    (lossy : Bool) (b : List ℕ) (i j k : ℕ) (c c' : List Kind) (w w' : ExpectedPart) (ts : List Token)
     → PrefixAt lossy b i c w ts
     → i ≤ j
     → j ≤ length b
     → reading lossy (take j b) c' w' ts
     → NoNameEnds lossy b j k
-    → NamesTold lossy b i k
+    → NamesReturned lossy b i k
 
 -- no name ends within a literal name, a number, or a string that is not whole
 abbrev pub NoNameWithin : Type 0
 NoNameWithin =
-    (lossy : Bool) (b : List ℕ) (j k : ℕ) (c : List Kind) (w : Spot) (ts : List Token)
+    (lossy : Bool) (b : List ℕ) (j k : ℕ) (c : List Kind) (w : ExpectedPart) (ts : List Token)
     → k ≤ length b
     → j ≤ k
     → reading lossy (take j b) c w ts

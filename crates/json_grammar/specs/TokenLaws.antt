@@ -1,7 +1,7 @@
 -- Laws of the tokens that may follow.
 use Rattle.std.specs.Prelude.{◌≡◌, ◌↔◌, ℕ, List, [], ◌∷◌, ◌++◌, Bool}
 use Rattle.json_grammar.specs.declared.Kind.{Kind}
-use Rattle.json_grammar.specs.declared.Spot.{Spot}
+use Rattle.json_grammar.specs.declared.ExpectedPart.{ExpectedPart}
 use Rattle.json_grammar.specs.Tree.{Tree, Token, tokens}
 use Rattle.json_grammar.specs.Place.{reading}
 use Rattle.json_grammar.specs.TokenStates.{TokenState, initial_state, state_in, state_after_value, after_tokens, ValueMayCome, MayCome, Accepts, BeginsTree, state_at}
@@ -25,6 +25,6 @@ TreeIsValue = (s : TokenState) (t : Tree) → (ValueMayCome s.expected → Accep
 -- the tokens of a prefix of a text are accepted, and lead to the state at its place
 abbrev pub PlaceIsState : Type 0
 PlaceIsState =
-    (lossy : Bool) (p : List ℕ) (c : List Kind) (w : Spot) (ts : List Token)
+    (lossy : Bool) (p : List ℕ) (c : List Kind) (w : ExpectedPart) (ts : List Token)
     → reading lossy p c w ts
     → Accepts initial_state ts × (after_tokens initial_state ts ≡ state_at w c)

@@ -3,8 +3,8 @@
 use Rattle.std.specs.Prelude.{◌≡◌, List, [], ◌∷◌, ◌++◌}
 use Rattle.json_grammar.specs.declared.Kind.{Kind}
 use Rattle.json_grammar.specs.declared.Kind.TheVariants.{Array as array, Object as object}
-use Rattle.json_grammar.specs.declared.Spot.{Spot}
-use Rattle.json_grammar.specs.declared.Spot.TheVariants.{Value as at_value, First as first, Key as key, KeyOrEnd as key_or_end, Colon as colon, Done as done}
+use Rattle.json_grammar.specs.declared.ExpectedPart.{ExpectedPart}
+use Rattle.json_grammar.specs.declared.ExpectedPart.TheVariants.{Value as at_value, First as first, Key as key, KeyOrEnd as key_or_end, Colon as colon, Done as done}
 use Rattle.json_grammar.specs.Tree.{Tree, Token, null_token, boolean_token, num_token, text_token, begin, end, key_token, tokens}
 use Rattle.json_grammar.specs.Place.{outside}
 
@@ -110,7 +110,7 @@ expected_before_value (array ∷ c) = element_or_end
 expected_before_value (object ∷ c) = a_value
 
 -- which tokens may follow in the open containers, in a state of a text
-abbrev pub expected_at : Spot → List Kind → Expected
+abbrev pub expected_at : ExpectedPart → List Kind → Expected
 expected_at at_value c = expected_before_value c
 expected_at first c = element_or_end
 expected_at key c = name_or_end
@@ -119,5 +119,5 @@ expected_at colon c = expected_before_value c
 expected_at done c = expected_in c
 
 -- the state at a place of a text
-abbrev pub state_at : Spot → List Kind → TokenState
+abbrev pub state_at : ExpectedPart → List Kind → TokenState
 state_at w c = record { opened = c; expected = expected_at w c }

@@ -1,6 +1,6 @@
 // Examples: texts with their trees, and inputs that are no text with their faults, in the strict
 // mode and with at most 254 levels.
-ghost use Rattle.json_grammar.specs.Examples.{ObjectText, NumbersText, EscapesText, RepeatedNamesText, WhitespaceText, DeepText, LossyText, BreaksOff, LiteralRefused, LeadingZeroRefused, ColonRefused, ElementEndRefused, MemberEndRefused, NameRefused, TrailingCommaRefused, ElementRefused, ByteOrderMarkRefused, ControlCharacterRefused, EscapeRefused, SurrogateRefused, TrailingCharactersRefused, TooDeepRefused, SmallTreeCounted, SmallTreeTold, ValueRead};
+ghost use Rattle.json_grammar.specs.Examples.{ObjectText, NumbersText, EscapesText, RepeatedNamesText, WhitespaceText, DeepText, LossyText, BreaksOff, LiteralRefused, LeadingZeroRefused, ColonRefused, ElementEndRefused, MemberEndRefused, NameRefused, TrailingCommaRefused, ElementRefused, ByteOrderMarkRefused, ControlCharacterRefused, EscapeRefused, SurrogateRefused, TrailingCharactersRefused, TooDeepRefused, SmallTreeCounted, SmallTreeTokens, ValueRead};
 
 /// Shows that `{"a": 1, "b": true, "c": null}` is a text of its three members, in their order.
 pub fn object_text()
@@ -120,8 +120,8 @@ pub fn small_tree_counted()
 {}
 
 /// Shows that `{"a":[1,{}]}` has eight tokens, the key before its value.
-pub fn small_tree_told()
-    ensures { SmallTreeTold }
+pub fn small_tree_tokens()
+    ensures { SmallTreeTokens }
 {}
 
 /// Shows that `[] x` reads as an empty array up to the offset 2, whatever follows it.

@@ -1,5 +1,5 @@
 // Laws of the gap between two tokens, over the definitions alone.
-ghost use Rattle.json_grammar.specs.Needs.{GapHasNoToken, NameBehindGap};
+ghost use Rattle.json_grammar.specs.Needs.{GapHasNoToken, NameAfterGap};
 
 /// In what begins some text, the tokens up to the end of a gap are those before it.
 pub fn gap_has_no_token()
@@ -8,6 +8,6 @@ pub fn gap_has_no_token()
 
 /// Where a name is the next token after a gap, the tokens before it are all that precede its
 /// opening quotation mark.
-pub fn name_behind_gap()
-    ensures { NameBehindGap }
+pub fn name_after_gap()
+    ensures { NameAfterGap }
 {}

@@ -1,5 +1,5 @@
 // Laws for the proofs of a reader that refuses names that repeat.
-ghost use Rattle.json_grammar.specs.RulesReaderLaws.{TokensOfTree, OneTokenMore, OpenKeysInside, PlaceRepeats, KeyRepeats, KeyRefused, FaultStands, NamesAreTold, NoNameWithin, KeyInside};
+ghost use Rattle.json_grammar.specs.RulesReaderLaws.{TokensOfTree, OneTokenMore, OpenKeysInside, PlaceRepeats, KeyRepeats, KeyRefused, LimitFaultByRules, NamesAreReturned, NoNameWithin, KeyInside};
 
 /// The tokens of a tree repeat a name exactly where the tree does.
 pub fn tokens_of_tree()
@@ -34,14 +34,14 @@ pub fn key_refused()
 
 /// A fault by the limit of levels is one by the rules, where each name that is whole before it was
 /// returned and none repeats.
-pub fn fault_stands()
-    ensures { FaultStands }
+pub fn limit_fault_by_rules()
+    ensures { LimitFaultByRules }
 {}
 
 /// Each name that is whole was returned, where only whitespace, a comma or a colon was passed
 /// since, and a part of one token.
-pub fn names_are_told()
-    ensures { NamesAreTold }
+pub fn names_are_returned()
+    ensures { NamesAreReturned }
 {}
 
 /// No name ends within a literal name, a number, or a string that is not whole.

@@ -23,6 +23,6 @@ pub fn after_whole()
 
 /// Shows that no name may follow in an array, no element in an object, and no bracket closes
 /// another.
-pub fn misplaced()
+pub fn misplaced_tokens()
     ensures { Misplaced }
 {}

@@ -7,7 +7,7 @@ use Rattle.json_io.specs.declared.error.ErrorCode.{ErrorCode}
 use Rattle.json_io.specs.declared.error.ErrorCode.TheVariants.{NoMemory, NotFound, TypeUnmatched}
 use Rattle.json_io.specs.declared.error.Place.{Place}
 use Rattle.json_io.specs.declared.error.Place.TheVariants.{None as nowhere}
-use Rattle.json_model.specs.Edit.{Changed, Refusal, not_found, type_unmatched, edited_once, and_then}
+use Rattle.json_model.specs.Edit.{Changed, EditRefusal, not_found, type_unmatched, edited_once, and_then}
 use Rattle.json_value.specs.Edits.{RefusesChange}
 use Rattle.json_history.specs.Calls.{call_of, CallsFail, MakesFirstCalls, NamesCall, numbered_place}
 use Rattle.json_history.specs.History.{TreeHistory, TreeCall, edit, undo, redo, after_edit, after_call, run_calls_from, run_call, ChangeLog, history_of}
@@ -19,17 +19,17 @@ pub run_calls_step : (n : ℕ) (h g : TreeHistory) (c : TreeCall) (cs : List Tre
 run_calls_step n h g (edit e) cs so = by (edited_once e h.now) so
   where
     by : (r : Changed Tree) → and_then r (λ u. Ok (after_edit h (Ok u))) ≡ Ok g
-        → elim r as (λ _. Result TreeHistory (ℕ × Refusal)) [ Ok u ↦ run_calls_from (suc n) (after_edit h (Ok u)) cs | Err d ↦ Err (n, d) ] ≡ run_calls_from (suc n) g cs
+        → elim r as (λ _. Result TreeHistory (ℕ × EditRefusal)) [ Ok u ↦ run_calls_from (suc n) (after_edit h (Ok u)) cs | Err d ↦ Err (n, d) ] ≡ run_calls_from (suc n) g cs
     by (Ok u) s = let same : after_edit h (Ok u) ≡ g = cc in ap (λ f. run_calls_from (suc n) f cs) same
     by (Err d) s = absurd (cc)
 run_calls_step n h g undo cs so = let same : (after_call h undo) ≡ g = cc in ap (λ f. run_calls_from (suc n) f cs) same
 run_calls_step n h g redo cs so = let same : (after_call h redo) ≡ g = cc in ap (λ f. run_calls_from (suc n) f cs) same
 
-run_calls_err : (n : ℕ) (h : TreeHistory) (c : TreeCall) (cs : List TreeCall) (d : Refusal) → run_call h c ≡ Err d → run_calls_from n h (c ∷ cs) ≡ Err (n, d)
+run_calls_err : (n : ℕ) (h : TreeHistory) (c : TreeCall) (cs : List TreeCall) (d : EditRefusal) → run_call h c ≡ Err d → run_calls_from n h (c ∷ cs) ≡ Err (n, d)
 run_calls_err n h (edit e) cs d so = by (edited_once e h.now) so
   where
     by : (r : Changed Tree) → and_then r (λ u. Ok (after_edit h (Ok u))) ≡ Err d
-        → elim r as (λ _. Result TreeHistory (ℕ × Refusal)) [ Ok u ↦ run_calls_from (suc n) (after_edit h (Ok u)) cs | Err d ↦ Err (n, d) ] ≡ Err (n, d)
+        → elim r as (λ _. Result TreeHistory (ℕ × EditRefusal)) [ Ok u ↦ run_calls_from (suc n) (after_edit h (Ok u)) cs | Err d ↦ Err (n, d) ] ≡ Err (n, d)
     by (Ok u) s = absurd (cc)
     by (Err x) s = let same : x ≡ d = cc in ap (λ y. Err (n, y)) same
 run_calls_err n h undo cs d so = absurd (cc)
@@ -51,7 +51,7 @@ numbered_call_fails n h g c cs all e f same refuses code place = by e.code e.pla
 
 -- ---- the calls that were made before the one that failed
 
-no_calls : (x : ℕ × Refusal) (g : TreeHistory) → ◌≡◌ {A = Result TreeHistory (ℕ × Refusal)} (Err x) (Ok g) → ⊥
+no_calls : (x : ℕ × EditRefusal) (g : TreeHistory) → ◌≡◌ {A = Result TreeHistory (ℕ × EditRefusal)} (Err x) (Ok g) → ⊥
 no_calls x g e = cc
 
 -- after calls that all apply, the calls that follow

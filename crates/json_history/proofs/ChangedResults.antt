@@ -1,11 +1,11 @@
 -- Two steps that may fail, taken apart.
 use Rattle.std.proofs.Common.{◌≡◌, Ok, Err, refl}
-use Rattle.json_model.specs.Edit.{Changed, Refusal, within, and_then}
+use Rattle.json_model.specs.Edit.{Changed, EditRefusal, within, and_then}
 
 pub ok_injective : {A : Type 0} (x y : A) → ◌≡◌ {A = Changed A} (Ok x) (Ok y) → x ≡ y
 ok_injective x y e = cc
 
-pub err_not_ok : {A : Type 0} (x : A) (r : Refusal) → ◌≡◌ {A = Changed A} (Err r) (Ok x) → ⊥
+pub err_not_ok : {A : Type 0} (x : A) (r : EditRefusal) → ◌≡◌ {A = Changed A} (Err r) (Ok x) → ⊥
 err_not_ok x r e = cc
 
 -- the parts of a result that is Ok

@@ -1,7 +1,7 @@
 -- Laws of undo and redo, and of change logs.
 use Rattle.std.proofs.Common.{◌≡◌, ℕ, zero, suc, ◌≤◌, List, [], ◌∷◌, ◌++◌, length, map, replicate, Result, Ok, Err, IfOk, refl, sym, ap, ◌∙◌, subst, append_assoc, arith}
 use Rattle.json_grammar.specs.Tree.{Tree}
-use Rattle.json_model.specs.Edit.{Edit, Changed, Refusal, edited_once, and_then}
+use Rattle.json_model.specs.Edit.{Edit, Changed, EditRefusal, edited_once, and_then}
 use Rattle.json_history.specs.Change.{TreeChange, change, undone, redo_edit}
 use Rattle.json_history.specs.History.{TreeHistory, TreeCall, edit, undo, redo, new_history, after_edit, after_undo, after_redo, after_call, after_calls, run_calls_from, TreeRedo, ChangeLog, new_log, past_of, future_of, Represents, ArePastSteps, AreFutureSteps, IsValidLog, log_undo, log_or, log_call, log_calls, IsStep, trees_or_empty, history_of}
 use Rattle.json_history.specs.Laws.{UndoAfterEdit, RedoAfterUndo, UndoAfterRedo, RedosAfterUndos, AllApply, UndosAfterEdits, EmptyPastOrFuture, LogRepresentsHistory, RunCallsIsAfterCalls, LogFollowsCall, LogApplies}
@@ -99,7 +99,7 @@ run_calls_from_is_after_calls n h [] = refl
 run_calls_from_is_after_calls n h (edit e ∷ cs) = by (edited_once e h.now) (λ u. run_calls_from_is_after_calls (suc n) (after_edit h (Ok u)) cs)
   where
     by : (r : Changed Tree) → ((u : Tree) → IfOk (run_calls_from (suc n) (after_edit h (Ok u)) cs) (λ g. after_calls (after_edit h (Ok u)) cs ≡ g))
-        → IfOk (elim r as (λ _. Result TreeHistory (ℕ × Refusal)) [ Ok u ↦ run_calls_from (suc n) (after_edit h (Ok u)) cs | Err r ↦ Err (n, r) ]) (λ g. after_calls (after_edit h r) cs ≡ g)
+        → IfOk (elim r as (λ _. Result TreeHistory (ℕ × EditRefusal)) [ Ok u ↦ run_calls_from (suc n) (after_edit h (Ok u)) cs | Err r ↦ Err (n, r) ]) (λ g. after_calls (after_edit h r) cs ≡ g)
     by (Ok u) i = i u
     by (Err r) i = tt
 run_calls_from_is_after_calls n h (undo ∷ cs) = run_calls_from_is_after_calls (suc n) (after_undo h h.past) cs

@@ -15,4 +15,4 @@ pub mod UndoLaws
 pub mod HistoryLaws
 pub mod LimitedHistories
 pub mod RestoredValues
-pub mod SharedSights
+pub mod SharedTargets

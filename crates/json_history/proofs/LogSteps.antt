@@ -30,7 +30,7 @@ redos_of_push rs r = ap reverse (map-append redo_of rs (r ∷ [])) ∙ reverse-a
 
 -- an edit without a change does not apply
 pub no_change_no_edit : (t u : Tree) (e : model.Edit) → None ≡ result_ok (change t e) → edited_once e t ≡ Ok u → ⊥
-no_change_no_edit t u e none made = let a = edit_undone_by t u e made in no a.told a.told_so
+no_change_no_edit t u e none made = let a = edit_undone_by t u e made in no a.tree_change a.told_so
   where
     no : (c : TreeChange) → change t e ≡ Ok c → ⊥
     no c so = let h = none ∙ ap result_ok so in cc

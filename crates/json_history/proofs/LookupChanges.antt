@@ -2,7 +2,7 @@
 use Rattle.std.proofs.Common.{◌≡◌, ℕ, zero, suc, List, [], ◌∷◌, ◌++◌, Bool, true, false, cond, Option, Some, None, Ok, Err, refl, sym, ap, ◌∙◌, bytes_eq}
 use Rattle.std.specs.Prelude.{ok_or, slice_get}
 use Rattle.json_grammar.specs.Tree.{Tree, null, boolean, num, text, list, pairs, Trees, no_trees, tree_and, trees_list, Pairs, no_pairs, pair_and}
-use Rattle.json_model.specs.Edit.{Step, key_step, index_step, Changed, Refusal, not_found, type_unmatched, within, at_key, at_index, at_path, and_then}
+use Rattle.json_model.specs.Edit.{Step, key_step, index_step, Changed, EditRefusal, not_found, type_unmatched, within, at_key, at_index, at_path, and_then}
 use Rattle.json_model.specs.Same.{first_value}
 use Rattle.json_history.specs.Lookup.{lookup_step, lookup}
 use Rattle.json_history.proofs.ChangedResults.{ok_injective, err_not_ok, and_then_ok, within_ok_parts, within_identity, within_and_then}
@@ -54,7 +54,7 @@ at_path_step (index_step i) p f (num l) = refl
 at_path_step (index_step i) p f (text s) = refl
 at_path_step (index_step i) p f (pairs ps) = refl
 
-pub ok_or_some : {A : Type 0} (o : Option A) (e : Refusal) (x : A) → ok_or o e ≡ Ok x → o ≡ Some x
+pub ok_or_some : {A : Type 0} (o : Option A) (e : EditRefusal) (x : A) → ok_or o e ≡ Ok x → o ≡ Some x
 ok_or_some None e x h = absurd (err_not_ok x e h)
 ok_or_some (Some y) e x h = ap Some (ok_injective y x h)
 

@@ -3,7 +3,7 @@ use Rattle.std.proofs.Common.{◌≡◌, ℕ, zero, suc, ◌-◌, ◌≤◌, Lis
 use Rattle.std.specs.Prelude.{insert}
 use Rattle.std.proofs.lemmas.List.{take-map, length-map}
 use Rattle.json_grammar.specs.Tree.{Tree, list, pairs, tree_and, pair_and, list_trees, list_pairs}
-use Rattle.json_model.specs.Edit.{Step, set_at, edited_once, at_path, Changed, Refusal, not_found, type_unmatched, within, on_list, on_pairs, and_then}
+use Rattle.json_model.specs.Edit.{Step, set_at, edited_once, at_path, Changed, EditRefusal, not_found, type_unmatched, within, on_list, on_pairs, and_then}
 use Rattle.json_io.specs.Errors.{no_memory}
 use Rattle.json_io.specs.declared.error.Error.{Error}
 use Rattle.json_io.specs.declared.error.ErrorCode.{ErrorCode}
@@ -37,7 +37,7 @@ map_all_but_last f xs n e = sym (ap (λ m. take (m - 1) (map f xs)) (length-map 
 
 -- ---- results that are Ok
 
-err_not_is_ok : {A : Type 0} (r : Changed A) (e : Refusal) → r ≡ Err e → IsOk r → ⊥
+err_not_is_ok : {A : Type 0} (r : Changed A) (e : EditRefusal) → r ≡ Err e → IsOk r → ⊥
 err_not_is_ok (Ok x) e h i = cc
 err_not_is_ok (Err d) e h i = cc
 

@@ -2,7 +2,7 @@
 use Rattle.std.proofs.Common.{◌≡◌, ◌⊎◌, inl, inr, ℕ, List, [], ◌∷◌, Some, Ok, Err, Result, refl, sym, subst, ap, ◌∙◌, false}
 use Rattle.json_grammar.specs.Tree.{Tree}
 use Rattle.json_grammar.proofs.Values.{one_tree}
-use Rattle.json_model.specs.Edit.{Refusal, not_found, type_unmatched}
+use Rattle.json_model.specs.Edit.{EditRefusal, not_found, type_unmatched}
 use Rattle.json_io.specs.Errors.{no_memory}
 use Rattle.json_io.specs.FaultText.{text_of}
 use Rattle.json_text.specs.Ruled.{usual_rules}
@@ -29,21 +29,21 @@ use Rattle.json_history.specs.Run.{WithCalls, RunFails, KnownApplicable, KnownIn
 some_injective : {A : Type 0} {x y : A} → Some x ≡ Some y → x ≡ y
 some_injective e = cc
 
-asks_once : (words : List (List ℕ)) (cs ds : List TreeCall) → AsksForCalls words cs → AsksForCalls words ds → cs ≡ ds
+asks_once : (arguments : List (List ℕ)) (cs ds : List TreeCall) → AsksForCalls arguments cs → AsksForCalls arguments ds → cs ≡ ds
 asks_once [] cs ds h k = absurd h
 asks_once (w ∷ []) cs ds h k = some_injective (sym h.calls ∙ ap calls_in (one_tree false h.tree k.tree w h.input.text k.input.text) ∙ k.calls)
 asks_once (w ∷ v ∷ ws) cs ds h k = absurd h
 
-of_asked_calls : (words : List (List ℕ)) (cs : List TreeCall) (P : List TreeCall → Type 0) → AsksForCalls words cs → WithCalls words P → P cs
-of_asked_calls words cs P asked h = subst P (asks_once words h.calls cs h.asked asked) h.so
+of_asked_calls : (arguments : List (List ℕ)) (cs : List TreeCall) (P : List TreeCall → Type 0) → AsksForCalls arguments cs → WithCalls arguments P → P cs
+of_asked_calls arguments cs P asked h = subst P (asks_once arguments h.calls cs h.asked asked) h.so
 
 -- why a run failed, of the calls that the words ask for
-replay_fails : (words : List (List ℕ)) (cs : List TreeCall) (source source' : SourceState) (sink sink' : SinkState) (code : ErrorCode) (place : Place) → AsksForCalls words cs → RunFails words source source' sink sink' code place
+replay_fails : (arguments : List (List ℕ)) (cs : List TreeCall) (source source' : SourceState) (sink sink' : SinkState) (code : ErrorCode) (place : Place) → AsksForCalls arguments cs → RunFails arguments source source' sink sink' code place
     → ReplayFails cs source source' sink sink' code place
-replay_fails words cs source source' sink sink' NoMemory nowhere asked (inl same) = inl same
-replay_fails words cs source source' sink sink' NoMemory nowhere asked (inr h) = inr (of_asked_calls words cs (λ cs. GainsPrefix cs source source' sink sink') asked h)
-replay_fails words cs source source' sink sink' BadWords nowhere asked cause = absurd (cause.0 cs asked)
-replay_fails words cs source source' sink sink' code place asked cause = of_asked_calls words cs (λ cs. ReplayFails cs source source' sink sink' code place) asked cause
+replay_fails arguments cs source source' sink sink' NoMemory nowhere asked (inl same) = inl same
+replay_fails arguments cs source source' sink sink' NoMemory nowhere asked (inr h) = inr (of_asked_calls arguments cs (λ cs. GainsPrefix cs source source' sink sink') asked h)
+replay_fails arguments cs source source' sink sink' BadWords nowhere asked cause = absurd (cause.0 cs asked)
+replay_fails arguments cs source source' sink sink' code place asked cause = of_asked_calls arguments cs (λ cs. ReplayFails cs source source' sink sink' code place) asked cause
 
 -- ---- one error, or want of memory
 
@@ -60,21 +60,21 @@ exact_of answer e found errs errs' is reports (inr same) = inr (ap (λ (e : Erro
 
 -- ---- words of another form
 
-pub bad_words_status : (words : List (List ℕ)) (source source' : SourceState) (sink sink' : SinkState) (code : ErrorCode) (place : Place) → RunFails words source source' sink sink' code place → ((cs : List TreeCall) → ¬ (AsksForCalls words cs))
+pub bad_words_status : (arguments : List (List ℕ)) (source source' : SourceState) (sink sink' : SinkState) (code : ErrorCode) (place : Place) → RunFails arguments source source' sink sink' code place → ((cs : List TreeCall) → ¬ (AsksForCalls arguments cs))
     → (status_of code place ≡ 2) ⊎ (status_of code place ≡ 6)
-bad_words_status words source source' sink sink' NoMemory nowhere cause none = inr refl
-bad_words_status words source source' sink sink' BadWords nowhere cause none = inl refl
-bad_words_status words source source' sink sink' code place cause none = absurd (none cause.calls cause.asked)
+bad_words_status arguments source source' sink sink' NoMemory nowhere cause none = inr refl
+bad_words_status arguments source source' sink sink' BadWords nowhere cause none = inl refl
+bad_words_status arguments source source' sink sink' code place cause none = absurd (none cause.calls cause.asked)
 
 -- ---- a text to which the calls apply
 
 abbrev Answer : Type 0
-Answer = Result TreeHistory (ℕ × Refusal)
+Answer = Result TreeHistory (ℕ × EditRefusal)
 
-ok_not_err : (x : TreeHistory) (e : ℕ × Refusal) → ◌≡◌ {A = Answer} (Ok x) (Err e) → ⊥
+ok_not_err : (x : TreeHistory) (e : ℕ × EditRefusal) → ◌≡◌ {A = Answer} (Ok x) (Err e) → ⊥
 ok_not_err x e h = cc
 
-err_injective : (x y : ℕ × Refusal) → ◌≡◌ {A = Answer} (Err x) (Err y) → x ≡ y
+err_injective : (x y : ℕ × EditRefusal) → ◌≡◌ {A = Answer} (Err x) (Err y) → x ≡ y
 err_injective x y h = cc
 
 -- the calls on the tree that was read are those on the tree of the known bytes
@@ -85,7 +85,7 @@ known_no_fault : (source source' : SourceState) (tree : Tree) (code : ErrorCode)
 known_no_fault source source' tree code place known fault = no_fault usual_rules known.bytes tree code place known.input fault
 
 module _ (cs : List TreeCall) (source source' : SourceState) (sink sink' : SinkState) (good : KnownApplicable cs source source' sink sink') where
-  not_inapplicable : (n : ℕ) (why : Refusal) → ReadsInapplicable cs source source' n why → ⊥
+  not_inapplicable : (n : ℕ) (why : EditRefusal) → ReadsInapplicable cs source source' n why → ⊥
   not_inapplicable n why h = ok_not_err good.left (n, why) (sym good.made ∙ sym (same_run_calls source source' cs h.tree good.tree h.reads good.input) ∙ h.refused)
 
   -- only for want of memory
@@ -98,10 +98,10 @@ module _ (cs : List TreeCall) (source source' : SourceState) (sink sink' : SinkS
   applicable_fails TypeUnmatched (in_edit n) cause = absurd (not_inapplicable n type_unmatched cause.0)
   applicable_fails code place cause = absurd (known_no_fault source source' good.tree code place good.input (fault_known usual_rules source source' good.input.bytes code place cause.0 good.input.known))
 
-pub applicable_status : (words : List (List ℕ)) (source source' : SourceState) (sink sink' : SinkState) (code : ErrorCode) (place : Place) → RunFails words source source' sink sink' code place
-    → IsApplicable words source source' sink sink' → (status_of code place ≡ 0) ⊎ (status_of code place ≡ 6)
-applicable_status words source source' sink sink' code place cause good =
-    inr (ap (λ (e : Error). status_of e.code e.place) (applicable_fails good.calls source source' sink sink' good.so code place (replay_fails words good.calls source source' sink sink' code place good.asked cause)))
+pub applicable_status : (arguments : List (List ℕ)) (source source' : SourceState) (sink sink' : SinkState) (code : ErrorCode) (place : Place) → RunFails arguments source source' sink sink' code place
+    → IsApplicable arguments source source' sink sink' → (status_of code place ≡ 0) ⊎ (status_of code place ≡ 6)
+applicable_status arguments source source' sink sink' code place cause good =
+    inr (ap (λ (e : Error). status_of e.code e.place) (applicable_fails good.calls source source' sink sink' good.so code place (replay_fails arguments good.calls source source' sink sink' code place good.asked cause)))
 
 -- ---- bytes with a fault
 
@@ -124,29 +124,29 @@ module _ (cs : List TreeCall) (source source' : SourceState) (sink sink' : SinkS
   invalid_fails TypeUnmatched (in_edit n) cause = absurd (fault_not_read usual_rules source source' cause.0.tree code place cause.0.reads bad)
   invalid_fails found at cause = inl (same_fault usual_rules bad.bytes code found place at bad.fault (fault_known usual_rules source source' bad.bytes found at cause.0 bad.known))
 
-module _ (words : List (List ℕ)) (source source' : SourceState) (sink sink' : SinkState) (code : ErrorCode) (place : Place) (bad : IsInvalid words source source' code place) where
-  pub invalid_status : (errs errs' : SinkState) (found : ErrorCode) (at : Place) → RunFails words source source' sink sink' found at → Reports (text_of (error found at)) errs errs' → Exact 1 (error code place) errs errs' (status_of found at)
+module _ (arguments : List (List ℕ)) (source source' : SourceState) (sink sink' : SinkState) (code : ErrorCode) (place : Place) (bad : IsInvalid arguments source source' code place) where
+  pub invalid_status : (errs errs' : SinkState) (found : ErrorCode) (at : Place) → RunFails arguments source source' sink sink' found at → Reports (text_of (error found at)) errs errs' → Exact 1 (error code place) errs errs' (status_of found at)
   invalid_status errs errs' found at cause reports =
       exact_of 1 (error code place) (error found at) errs errs' (fault_status bad.so.bytes code place bad.so.fault) reports
-      (invalid_fails bad.calls source source' sink sink' code place bad.so found at (replay_fails words bad.calls source source' sink sink' found at bad.asked cause))
+      (invalid_fails bad.calls source source' sink sink' code place bad.so found at (replay_fails arguments bad.calls source source' sink sink' found at bad.asked cause))
 
-  pub invalid_not_done : WithCalls words (λ cs. Replays cs source source' sink sink') → ⊥
+  pub invalid_not_done : WithCalls arguments (λ cs. Replays cs source source' sink sink') → ⊥
   invalid_not_done did = fault_not_read usual_rules source source' did.so.tree code place did.so.reads bad.so
 
 -- ---- a text to which a call does not apply
 
-edit_error_status : (n : ℕ) (why : Refusal) → status_of (edit_error n why).code (edit_error n why).place ≡ 3
+edit_error_status : (n : ℕ) (why : EditRefusal) → status_of (edit_error n why).code (edit_error n why).place ≡ 3
 edit_error_status n not_found = refl
 edit_error_status n type_unmatched = refl
 
-module _ (cs : List TreeCall) (source source' : SourceState) (n : ℕ) (why : Refusal) (unfit : KnownInapplicable cs source source' n why) where
+module _ (cs : List TreeCall) (source source' : SourceState) (n : ℕ) (why : EditRefusal) (unfit : KnownInapplicable cs source source' n why) where
   inapplicable_not_made : (tree : Tree) (left : TreeHistory) → ReadsInput usual_rules source source' tree → run_calls tree cs ≡ Ok left → ⊥
   inapplicable_not_made tree left reads made = ok_not_err left (n, why) (sym made ∙ same_run_calls source source' cs tree unfit.tree reads unfit.input ∙ unfit.refused)
 
-  inapplicable_same : (m : ℕ) (other : Refusal) → ReadsInapplicable cs source source' m other → edit_error m other ≡ edit_error n why
+  inapplicable_same : (m : ℕ) (other : EditRefusal) → ReadsInapplicable cs source source' m other → edit_error m other ≡ edit_error n why
   inapplicable_same m other h =
-      let same : ◌≡◌ {A = ℕ × Refusal} (m, other) (n, why) = err_injective (m, other) (n, why) (sym h.refused ∙ same_run_calls source source' cs h.tree unfit.tree h.reads unfit.input ∙ unfit.refused) in
-      ap (λ (p : ℕ × Refusal). edit_error p.0 p.1) same
+      let same : ◌≡◌ {A = ℕ × EditRefusal} (m, other) (n, why) = err_injective (m, other) (n, why) (sym h.refused ∙ same_run_calls source source' cs h.tree unfit.tree h.reads unfit.input ∙ unfit.refused) in
+      ap (λ (p : ℕ × EditRefusal). edit_error p.0 p.1) same
 
   -- with that edit, or for want of memory
   inapplicable_fails : (sink sink' : SinkState) (code : ErrorCode) (place : Place) → ReplayFails cs source source' sink sink' code place → (error code place ≡ edit_error n why) ⊎ (error code place ≡ no_memory)
@@ -158,13 +158,13 @@ module _ (cs : List TreeCall) (source source' : SourceState) (n : ℕ) (why : Re
   inapplicable_fails sink sink' TypeUnmatched (in_edit m) cause = inl (inapplicable_same m type_unmatched cause.0)
   inapplicable_fails sink sink' code place cause = absurd (known_no_fault source source' unfit.tree code place unfit.input (fault_known usual_rules source source' unfit.input.bytes code place cause.0 unfit.input.known))
 
-module _ (words : List (List ℕ)) (source source' : SourceState) (sink sink' : SinkState) (n : ℕ) (why : Refusal) (unfit : IsInapplicable words source source' n why) where
-  pub inapplicable_status : (errs errs' : SinkState) (code : ErrorCode) (place : Place) → RunFails words source source' sink sink' code place → Reports (text_of (error code place)) errs errs' → Exact 3 (edit_error n why) errs errs' (status_of code place)
+module _ (arguments : List (List ℕ)) (source source' : SourceState) (sink sink' : SinkState) (n : ℕ) (why : EditRefusal) (unfit : IsInapplicable arguments source source' n why) where
+  pub inapplicable_status : (errs errs' : SinkState) (code : ErrorCode) (place : Place) → RunFails arguments source source' sink sink' code place → Reports (text_of (error code place)) errs errs' → Exact 3 (edit_error n why) errs errs' (status_of code place)
   inapplicable_status errs errs' code place cause reports =
       exact_of 3 (edit_error n why) (error code place) errs errs' (edit_error_status n why) reports
-      (inapplicable_fails unfit.calls source source' n why unfit.so sink sink' code place (replay_fails words unfit.calls source source' sink sink' code place unfit.asked cause))
+      (inapplicable_fails unfit.calls source source' n why unfit.so sink sink' code place (replay_fails arguments unfit.calls source source' sink sink' code place unfit.asked cause))
 
-  pub inapplicable_not_done : WithCalls words (λ cs. Replays cs source source' sink sink') → ⊥
+  pub inapplicable_not_done : WithCalls arguments (λ cs. Replays cs source source' sink sink') → ⊥
   inapplicable_not_done did =
-      let r = of_asked_calls words unfit.calls (λ cs. Replays cs source source' sink sink') unfit.asked did in
+      let r = of_asked_calls arguments unfit.calls (λ cs. Replays cs source source' sink sink') unfit.asked did in
       inapplicable_not_made unfit.calls source source' n why unfit.so r.tree r.left r.reads r.made

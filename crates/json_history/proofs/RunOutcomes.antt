@@ -14,26 +14,26 @@ use Rattle.json_history.specs.Spelling.{AsksForCalls}
 use Rattle.json_history.specs.Replay.{Replays, ReplayFails}
 use Rattle.json_history.specs.Run.{WithCalls, RunFails}
 
-run_fails : (words : List (List ℕ)) (cs : List TreeCall) (source source' : SourceState) (sink sink' : SinkState) (code : ErrorCode) (place : Place) → AsksForCalls words cs → ReplayFails cs source source' sink sink' code place → RunFails words source source' sink sink' code place
-run_fails words cs source source' sink sink' NoMemory nowhere asked (inl same) = inl same
-run_fails words cs source source' sink sink' NoMemory nowhere asked (inr g) = inr (record { calls = cs; asked = asked; so = g })
-run_fails words cs source source' sink sink' BadWords nowhere asked h = absurd (no_words usual_rules h.0.bytes nowhere h.0.fault)
-run_fails words cs source source' sink sink' code place asked h = record { calls = cs; asked = asked; so = h }
+run_fails : (arguments : List (List ℕ)) (cs : List TreeCall) (source source' : SourceState) (sink sink' : SinkState) (code : ErrorCode) (place : Place) → AsksForCalls arguments cs → ReplayFails cs source source' sink sink' code place → RunFails arguments source source' sink sink' code place
+run_fails arguments cs source source' sink sink' NoMemory nowhere asked (inl same) = inl same
+run_fails arguments cs source source' sink sink' NoMemory nowhere asked (inr g) = inr (record { calls = cs; asked = asked; so = g })
+run_fails arguments cs source source' sink sink' BadWords nowhere asked h = absurd (no_words usual_rules h.0.bytes nowhere h.0.fault)
+run_fails arguments cs source source' sink sink' code place asked h = record { calls = cs; asked = asked; so = h }
 
 -- the replay failed
-pub run_fails_by_replay : (r : Result (Unit {0}) Error) (words : List (List ℕ)) (cs : List TreeCall) (source source' : SourceState) (sink sink' : SinkState) → AsksForCalls words cs
-    → IfErr r (λ e. ReplayFails cs source source' sink sink' e.code e.place) → IfErr r (λ e. RunFails words source source' sink sink' e.code e.place)
-run_fails_by_replay (Ok x) words cs source source' sink sink' asked h = tt
-run_fails_by_replay (Err e) words cs source source' sink sink' asked h = run_fails words cs source source' sink sink' e.code e.place asked h
+pub run_fails_by_replay : (r : Result (Unit {0}) Error) (arguments : List (List ℕ)) (cs : List TreeCall) (source source' : SourceState) (sink sink' : SinkState) → AsksForCalls arguments cs
+    → IfErr r (λ e. ReplayFails cs source source' sink sink' e.code e.place) → IfErr r (λ e. RunFails arguments source source' sink sink' e.code e.place)
+run_fails_by_replay (Ok x) arguments cs source source' sink sink' asked h = tt
+run_fails_by_replay (Err e) arguments cs source source' sink sink' asked h = run_fails arguments cs source source' sink sink' e.code e.place asked h
 
 -- it succeeded
-pub run_succeeds : (r : Result (Unit {0}) Error) (words : List (List ℕ)) (cs : List TreeCall) (source source' : SourceState) (sink sink' : SinkState) → AsksForCalls words cs
-    → OnOk r (Replays cs source source' sink sink') → OnOk r (WithCalls words (λ cs. Replays cs source source' sink sink'))
-run_succeeds (Err e) words cs source source' sink sink' asked h = tt
-run_succeeds (Ok x) words cs source source' sink sink' asked h = record { calls = cs; asked = asked; so = h }
+pub run_succeeds : (r : Result (Unit {0}) Error) (arguments : List (List ℕ)) (cs : List TreeCall) (source source' : SourceState) (sink sink' : SinkState) → AsksForCalls arguments cs
+    → OnOk r (Replays cs source source' sink sink') → OnOk r (WithCalls arguments (λ cs. Replays cs source source' sink sink'))
+run_succeeds (Err e) arguments cs source source' sink sink' asked h = tt
+run_succeeds (Ok x) arguments cs source source' sink sink' asked h = record { calls = cs; asked = asked; so = h }
 
 -- the words ask for nothing, or memory ran out
-pub run_fails_by_words : (r : Result (Unit {0}) Error) (words : List (List ℕ)) (source : SourceState) (sink : SinkState) → IfErr r (λ e. (e ≡ no_memory) ⊎ ((e ≡ bad_words) × ((cs : List TreeCall) → ¬ (AsksForCalls words cs)))) → IfErr r (λ e. RunFails words source source sink sink e.code e.place)
-run_fails_by_words (Ok x) words source sink h = tt
-run_fails_by_words (Err e) words source sink (inl lacks) = subst (λ e. RunFails words source source sink sink e.code e.place) (sym lacks) (inl refl)
-run_fails_by_words (Err e) words source sink (inr bad) = subst (λ e. RunFails words source source sink sink e.code e.place) (sym bad.0) (bad.1, refl, refl)
+pub run_fails_by_words : (r : Result (Unit {0}) Error) (arguments : List (List ℕ)) (source : SourceState) (sink : SinkState) → IfErr r (λ e. (e ≡ no_memory) ⊎ ((e ≡ bad_words) × ((cs : List TreeCall) → ¬ (AsksForCalls arguments cs)))) → IfErr r (λ e. RunFails arguments source source sink sink e.code e.place)
+run_fails_by_words (Ok x) arguments source sink h = tt
+run_fails_by_words (Err e) arguments source sink (inl lacks) = subst (λ e. RunFails arguments source source sink sink e.code e.place) (sym lacks) (inl refl)
+run_fails_by_words (Err e) arguments source sink (inr bad) = subst (λ e. RunFails arguments source source sink sink e.code e.place) (sym bad.0) (bad.1, refl, refl)

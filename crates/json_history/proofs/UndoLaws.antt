@@ -3,7 +3,7 @@ use Rattle.std.proofs.Common.{◌≡◌, ℕ, zero, suc, List, [], ◌∷◌, �
 use Rattle.std.specs.Prelude.{ok_or, slice_get}
 use Rattle.std.proofs.lemmas.Slice.Eq.{bytes_eq-Decides}
 use Rattle.json_grammar.specs.Tree.{Tree, null, boolean, num, text, list, pairs, Trees, no_trees, tree_and, trees_list, Pairs, no_pairs, pair_and}
-use Rattle.json_model.specs.Edit.{Step, key_step, index_step, Edit, set_at, insert_at, push_at, remove_at, Changed, Refusal, not_found, type_unmatched, within, at_key, on_pairs, on_list, at_path, inserted, pushed, without_key, has_key, without_index, edited_once, edited, and_then}
+use Rattle.json_model.specs.Edit.{Step, key_step, index_step, Edit, set_at, insert_at, push_at, remove_at, Changed, EditRefusal, not_found, type_unmatched, within, at_key, on_pairs, on_list, at_path, inserted, pushed, without_key, has_key, without_index, edited_once, edited, and_then}
 use Rattle.json_model.specs.Same.{first_value}
 use Rattle.json_history.specs.Lookup.{lookup_step, lookup}
 use Rattle.json_history.specs.Change.{insert_element_at}
@@ -172,20 +172,20 @@ has_key_ok k ps qs h = by (has_key k ps) h
 
 -- the change of an edit e that makes u of t: it undoes the edit, and an edit redoes it
 pub record UndoneBy (t u : Tree) (e : Edit) : Type 0 where
-  pub told : TreeChange
-  pub told_so : change t e ≡ Ok told
-  pub puts_back : undone u told ≡ Ok t
+  pub tree_change : TreeChange
+  pub told_so : change t e ≡ Ok tree_change
+  pub puts_back : undone u tree_change ≡ Ok t
   pub anew : Edit
-  pub anew_so : redo_edit u told ≡ Ok anew
+  pub anew_so : redo_edit u tree_change ≡ Ok anew
   pub gives : edited_once anew t ≡ Ok u
-  pub changes : change t anew ≡ Ok told
+  pub changes : change t anew ≡ Ok tree_change
 
 pub edit_undone_by : (t u : Tree) (e : Edit) → edited_once e t ≡ Ok u → UndoneBy t u e
 edit_undone_by t u (set_at p v) h =
     let s = path_change p (λ _. Ok v) t u h in
     let c : change t (set_at p v) ≡ Ok (put p s.old) = ap (within (λ old. put p old)) s.stood in
     record {
-      told = put p s.old;
+      tree_change = put p s.old;
       told_so = c;
       puts_back = at_path_back p (λ _. Ok v) (λ _. Ok s.old) t u s refl;
       anew = set_at p v;
@@ -219,7 +219,7 @@ edit_undone_by t u (insert_at p k v) h = by (first_value k a.0) refl
     by : (o : Option Tree) → first_value k a.0 ≡ o → UndoneBy t u (insert_at p k v)
     by None e =
         record {
-          told = drop_last p;
+          tree_change = drop_last p;
           told_so = told_is ∙ ap (λ o. Ok (insert_change p k o)) e;
           puts_back = at_path_back p f without_last t u s (ap without_last new_is ∙ ap (within pairs) (without_last_member_inserted k v a.0 e) ∙ ap Ok (sym a.2));
           anew = insert_at p k v;
@@ -230,7 +230,7 @@ edit_undone_by t u (insert_at p k v) h = by (first_value k a.0) refl
     by (Some w) e =
         let q = key_step k ∷ [] in
         record {
-          told = put (p ++ q) w;
+          tree_change = put (p ++ q) w;
           told_so = told_is ∙ ap (λ o. Ok (insert_change p k o)) e;
           puts_back = at_path_append p q (λ _. Ok w) u ∙ at_path_back p f (at_path q (λ _. Ok w)) t u s (ap (at_path q (λ _. Ok w)) new_is ∙ ap (within pairs) (at_key_inserted k w v a.0 e) ∙ ap Ok (sym a.2));
           anew = set_at (p ++ q) v;
@@ -248,7 +248,7 @@ edit_undone_by t u (push_at p v) h =
     let new_is : s.new ≡ list (pushed v a.0) = a.4 ∙ ap list (sym (ok_injective (pushed v a.0) a.1 a.3)) in
     let c : change t (push_at p v) ≡ Ok (drop_last p) = ap (λ r. and_then r (λ c. within (λ ts. drop_last p) (elements_if_array c))) (s.stood ∙ ap Ok a.2) in
     record {
-      told = drop_last p;
+      tree_change = drop_last p;
       told_so = c;
       puts_back = at_path_back p f without_last t u s (ap without_last new_is ∙ ap (within list) (without_last_element_pushed v a.0) ∙ ap Ok (sym a.2));
       anew = push_at p v;
@@ -265,7 +265,7 @@ edit_undone_by t u (remove_at p (index_step i)) h =
     let c : change t (remove_at p (index_step i)) ≡ Ok (put_back p i b.0) =
     ap (within (λ x. put_back p i x)) (lookup_append p q t ∙ ap (λ r. and_then r (lookup q)) (s.stood ∙ ap Ok a.2) ∙ ap (λ o. and_then (ok_or o not_found) (λ x. Ok x)) b.1) in
     record {
-      told = put_back p i b.0;
+      tree_change = put_back p i b.0;
       told_so = c;
       puts_back = at_path_back p f (on_list (insert_element_at i b.0)) t u s (ap (on_list (insert_element_at i b.0)) a.4 ∙ ap (within list) b.2 ∙ ap Ok (sym a.2));
       anew = remove_at p (index_step i);
@@ -283,7 +283,7 @@ edit_undone_by t u (remove_at p (key_step k)) h =
     ap (λ r. and_then r (λ c. and_then (members_if_object c) (λ ps. cond (has_key k ps) (Ok (put_pairs p (members_named 0 k ps))) (Err not_found)))) (s.stood ∙ ap Ok a.2)
     ∙ ap (λ b. cond b (Ok (put_pairs p (members_named 0 k a.0))) (Err not_found)) b.0 in
     record {
-      told = put_pairs p (members_named 0 k a.0);
+      tree_change = put_pairs p (members_named 0 k a.0);
       told_so = c;
       puts_back = at_path_back p f (on_pairs (insert_members (members_named 0 k a.0))) t u s (ap (on_pairs (insert_members (members_named 0 k a.0))) new_is ∙ ap (within pairs) (members_put_back k a.0) ∙ ap Ok (sym a.2));
       anew = remove_at p (key_step k);
@@ -296,36 +296,36 @@ edited_one : (t u : Tree) (e : Edit) → edited (e ∷ []) t ≡ Ok u → edited
 edited_one t u e h = by (edited_once e t) h
   where
     Made : Type 0
-    Made = Result Tree (ℕ × Refusal)
+    Made = Result Tree (ℕ × EditRefusal)
 
-    by : (r : Changed Tree) → ◌≡◌ {A = Result Tree (ℕ × Refusal)} (elim r as (λ _. Result Tree (ℕ × Refusal)) [ Ok u ↦ Ok u | Err r ↦ Err (0, r) ]) (Ok u) → r ≡ Ok u
+    by : (r : Changed Tree) → ◌≡◌ {A = Result Tree (ℕ × EditRefusal)} (elim r as (λ _. Result Tree (ℕ × EditRefusal)) [ Ok u ↦ Ok u | Err r ↦ Err (0, r) ]) (Ok u) → r ≡ Ok u
     by (Ok x) h = let g : x ≡ u = cc in ap Ok g
     by (Err r) h = absurd cc
 
 pub undo_inverts_edit : (t u : Tree) (e : Edit) → edited (e ∷ []) t ≡ Ok u → (c : TreeChange) × (change t e ≡ Ok c) × (undone u c ≡ Ok t)
-undo_inverts_edit t u e h = let a = edit_undone_by t u e (edited_one t u e h) in (a.told, a.told_so, a.puts_back)
+undo_inverts_edit t u e h = let a = edit_undone_by t u e (edited_one t u e h) in (a.tree_change, a.told_so, a.puts_back)
 
 pub redo_repeats_edit : (t u : Tree) (e : Edit) (c : TreeChange) → edited_once e t ≡ Ok u → change t e ≡ Ok c → (at_path_again : Edit) × (redo_edit u c ≡ Ok at_path_again) × (edited_once at_path_again t ≡ Ok u) × (change t at_path_again ≡ Ok c)
 redo_repeats_edit t u e c h g =
     let a = edit_undone_by t u e h in
-    let told : a.told ≡ c = ok_injective a.told c (sym a.told_so ∙ g) in
+    let told : a.tree_change ≡ c = ok_injective a.tree_change c (sym a.told_so ∙ g) in
     (a.anew, ap (redo_edit u) (sym told) ∙ a.anew_so, a.gives, a.changes ∙ ap Ok told)
 
 pub undone_of_change : (t u : Tree) (e : Edit) (c : TreeChange) → edited_once e t ≡ Ok u → change t e ≡ Ok c → undone u c ≡ Ok t
 undone_of_change t u e c h g =
     let a = edit_undone_by t u e h in
-    ap (undone u) (ok_injective c a.told (sym g ∙ a.told_so)) ∙ a.puts_back
+    ap (undone u) (ok_injective c a.tree_change (sym g ∙ a.told_so)) ∙ a.puts_back
 
 -- ---- edits that do not apply
 
-err_injective : {A : Type 0} (e r : Refusal) → ◌≡◌ {A = Changed A} (Err e) (Err r) → e ≡ r
+err_injective : {A : Type 0} (e r : EditRefusal) → ◌≡◌ {A = Changed A} (Err e) (Err r) → e ≡ r
 err_injective e r h = cc
 
-ok_not_err : {A : Type 0} (x : A) (r : Refusal) → ◌≡◌ {A = Changed A} (Ok x) (Err r) → ⊥
+ok_not_err : {A : Type 0} (x : A) (r : EditRefusal) → ◌≡◌ {A = Changed A} (Ok x) (Err r) → ⊥
 ok_not_err x r e = cc
 
 -- where a change at a path fails, the path leads nowhere, or the value there fails it
-pub at_path_err : (p : List Step) (f : Tree → Changed Tree) (t : Tree) (r : Refusal) → at_path p f t ≡ Err r → (lookup p t ≡ Err r) ⊎ ((c : Tree) × (lookup p t ≡ Ok c) × (f c ≡ Err r))
+pub at_path_err : (p : List Step) (f : Tree → Changed Tree) (t : Tree) (r : EditRefusal) → at_path p f t ≡ Err r → (lookup p t ≡ Err r) ⊎ ((c : Tree) × (lookup p t ≡ Ok c) × (f c ≡ Err r))
 at_path_err p f t r h = by (lookup p t) (sym (at_path_lookup p f t) ∙ h)
   where
     more : (c : Tree) (s : Changed Tree) → within (λ n. replaced p n t) s ≡ Err r → s ≡ Err r
@@ -336,7 +336,7 @@ at_path_err p f t r h = by (lookup p t) (sym (at_path_lookup p f t) ∙ h)
     by (Ok c) h = inr (c, refl, more c (f c) h)
     by (Err e) h = inl (ap Err (err_injective {A = Tree} e r h))
 
-on_pairs_err : (f : Pairs → Changed Pairs) (t : Tree) (r : Refusal) → on_pairs f t ≡ Err r → (members_if_object t ≡ Err r) ⊎ ((ps : Pairs) × (t ≡ pairs ps) × (f ps ≡ Err r))
+on_pairs_err : (f : Pairs → Changed Pairs) (t : Tree) (r : EditRefusal) → on_pairs f t ≡ Err r → (members_if_object t ≡ Err r) ⊎ ((ps : Pairs) × (t ≡ pairs ps) × (f ps ≡ Err r))
 on_pairs_err f (pairs ps) r h = inr (ps, refl, by (f ps) h)
   where
     by : (s : Changed Pairs) → within pairs s ≡ Err r → s ≡ Err r
@@ -348,7 +348,7 @@ on_pairs_err f (num l) r h = inl (ap Err (err_injective {A = Tree} type_unmatche
 on_pairs_err f (text s) r h = inl (ap Err (err_injective {A = Tree} type_unmatched r h))
 on_pairs_err f (list ts) r h = inl (ap Err (err_injective {A = Tree} type_unmatched r h))
 
-on_list_err : (f : Trees → Changed Trees) (t : Tree) (r : Refusal) → on_list f t ≡ Err r → (elements_if_array t ≡ Err r) ⊎ ((ts : Trees) × (t ≡ list ts) × (f ts ≡ Err r))
+on_list_err : (f : Trees → Changed Trees) (t : Tree) (r : EditRefusal) → on_list f t ≡ Err r → (elements_if_array t ≡ Err r) ⊎ ((ts : Trees) × (t ≡ list ts) × (f ts ≡ Err r))
 on_list_err f (list ts) r h = inr (ts, refl, by (f ts) h)
   where
     by : (s : Changed Trees) → within list s ≡ Err r → s ≡ Err r
@@ -360,7 +360,7 @@ on_list_err f (num l) r h = inl (ap Err (err_injective {A = Tree} type_unmatched
 on_list_err f (text s) r h = inl (ap Err (err_injective {A = Tree} type_unmatched r h))
 on_list_err f (pairs ps) r h = inl (ap Err (err_injective {A = Tree} type_unmatched r h))
 
-without_index_err : (i : ℕ) (ts : Trees) (r : Refusal) → without_index i ts ≡ Err r → ok_or (slice_get (trees_list ts) i) not_found ≡ Err r
+without_index_err : (i : ℕ) (ts : Trees) (r : EditRefusal) → without_index i ts ≡ Err r → ok_or (slice_get (trees_list ts) i) not_found ≡ Err r
 without_index_err i no_trees r h = ap Err (err_injective {A = Trees} not_found r h)
 without_index_err zero (tree_and t ts) r h = absurd (ok_not_err ts r h)
 without_index_err (suc i) (tree_and t ts) r h = without_index_err i ts r (by (without_index i ts) h)
@@ -369,7 +369,7 @@ without_index_err (suc i) (tree_and t ts) r h = without_index_err i ts r (by (wi
     by (Ok x) h = absurd (ok_not_err (tree_and t x) r h)
     by (Err e) h = h
 
-lookup_step_err : (i : ℕ) (c : Tree) (r : Refusal) → elements_if_array c ≡ Err r → lookup_step (index_step i) c ≡ Err r
+lookup_step_err : (i : ℕ) (c : Tree) (r : EditRefusal) → elements_if_array c ≡ Err r → lookup_step (index_step i) c ≡ Err r
 lookup_step_err i (list ts) r h = absurd (ok_not_err ts r h)
 lookup_step_err i null r h = ap Err (err_injective {A = Trees} type_unmatched r h)
 lookup_step_err i (boolean b) r h = ap Err (err_injective {A = Trees} type_unmatched r h)
@@ -377,14 +377,14 @@ lookup_step_err i (num l) r h = ap Err (err_injective {A = Trees} type_unmatched
 lookup_step_err i (text s) r h = ap Err (err_injective {A = Trees} type_unmatched r h)
 lookup_step_err i (pairs ps) r h = ap Err (err_injective {A = Trees} type_unmatched r h)
 
-without_key_err : (k : List ℕ) (ps : Pairs) (r : Refusal) (c : TreeChange) → ◌≡◌ {A = Changed Pairs} (cond (has_key k ps) (Ok (without_key k ps)) (Err not_found)) (Err r) → ◌≡◌ {A = Changed TreeChange} (cond (has_key k ps) (Ok c) (Err not_found)) (Err r)
+without_key_err : (k : List ℕ) (ps : Pairs) (r : EditRefusal) (c : TreeChange) → ◌≡◌ {A = Changed Pairs} (cond (has_key k ps) (Ok (without_key k ps)) (Err not_found)) (Err r) → ◌≡◌ {A = Changed TreeChange} (cond (has_key k ps) (Ok c) (Err not_found)) (Err r)
 without_key_err k ps r c h = by (has_key k ps) h
   where
     by : (b : Bool) → ◌≡◌ {A = Changed Pairs} (cond b (Ok (without_key k ps)) (Err not_found)) (Err r) → ◌≡◌ {A = Changed TreeChange} (cond b (Ok c) (Err not_found)) (Err r)
     by true h = absurd (ok_not_err (without_key k ps) r h)
     by false h = ap Err (err_injective {A = Pairs} not_found r h)
 
-pub change_fails_as_edit : (t : Tree) (e : Edit) (r : Refusal) → edited_once e t ≡ Err r → change t e ≡ Err r
+pub change_fails_as_edit : (t : Tree) (e : Edit) (r : EditRefusal) → edited_once e t ≡ Err r → change t e ≡ Err r
 change_fails_as_edit t (set_at p v) r h =
     elim (at_path_err p (λ _. Ok v) t r h) [
       | inl a ↦ ap (within (λ old. put p old)) a

@@ -1,6 +1,6 @@
 -- Calls of a history as the code has them, and why they fail.
 use Rattle.std.specs.Prelude.{◌≡◌, ℕ, List, ◌∷◌, ◌++◌, length, Ok, Err, ⊤}
-use Rattle.json_model.specs.Edit.{Refusal, not_found, type_unmatched}
+use Rattle.json_model.specs.Edit.{EditRefusal, not_found, type_unmatched}
 use Rattle.json_io.specs.declared.error.Error.{Error}
 use Rattle.json_io.specs.declared.error.ErrorCode.{ErrorCode}
 use Rattle.json_io.specs.declared.error.ErrorCode.TheVariants.{NoMemory, NotFound, TypeUnmatched}
@@ -48,5 +48,5 @@ pub record MakesFirstCalls (h g : TreeHistory) (cs : List TreeCall) (place : Pla
   pub named : NamesCall place (length made)
 
 -- the error where the call with this number is an edit that does not apply
-abbrev pub edit_error : ℕ → Refusal → Error
+abbrev pub edit_error : ℕ → EditRefusal → Error
 edit_error number why = record { code = code_of_refusal why; place = in_edit number }

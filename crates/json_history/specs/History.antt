@@ -1,7 +1,7 @@
 -- Histories: the current tree, the trees to undo to, and those to redo to.
 use Rattle.std.specs.Prelude.{◌≡◌, ℕ, suc, Bool, true, false, List, [], ◌∷◌, Result, Ok, Err}
 use Rattle.json_grammar.specs.Tree.{Tree}
-use Rattle.json_model.specs.Edit.{Edit, Changed, Refusal, edited_once, and_then}
+use Rattle.json_model.specs.Edit.{Edit, Changed, EditRefusal, edited_once, and_then}
 use Rattle.json_history.specs.Change.{TreeChange, change, undone, redo_edit}
 
 -- the current tree, the past with the latest tree first, and the future with the next tree first
@@ -47,7 +47,7 @@ after_calls h (c ∷ cs) = after_calls (after_call h c) cs
 
 -- after several calls, of which the first has the number n; or the number of the first edit that
 -- does not apply, and why
-abbrev pub run_calls_from : ℕ → TreeHistory → List TreeCall → Result TreeHistory (ℕ × Refusal)
+abbrev pub run_calls_from : ℕ → TreeHistory → List TreeCall → Result TreeHistory (ℕ × EditRefusal)
 run_calls_from n h [] = Ok h
 run_calls_from n h (edit e ∷ cs) = elim (edited_once e h.now) [ Ok u ↦ run_calls_from (suc n) (after_edit h (Ok u)) cs | Err r ↦ Err (n, r) ]
 run_calls_from n h (undo ∷ cs) = run_calls_from (suc n) (after_undo h h.past) cs
@@ -60,7 +60,7 @@ run_call h undo = Ok (after_undo h h.past)
 run_call h redo = Ok (after_redo h h.future)
 
 -- several calls on a new history of a tree
-abbrev pub run_calls : Tree → List TreeCall → Result TreeHistory (ℕ × Refusal)
+abbrev pub run_calls : Tree → List TreeCall → Result TreeHistory (ℕ × EditRefusal)
 run_calls t cs = run_calls_from 0 (new_history t) cs
 
 -- ---- change logs: the form of a history in memory

@@ -1,7 +1,7 @@
 -- Laws of changes and histories.
 use Rattle.std.specs.Prelude.{◌≡◌, ℕ, ◌≤◌, List, [], ◌∷◌, ◌++◌, length, map, replicate, Ok, Err, IfOk}
 use Rattle.json_grammar.specs.Tree.{Tree}
-use Rattle.json_model.specs.Edit.{Edit, Refusal, edited_once, edited}
+use Rattle.json_model.specs.Edit.{Edit, EditRefusal, edited_once, edited}
 use Rattle.json_history.specs.Change.{TreeChange, change, undone, redo_edit}
 use Rattle.json_history.specs.History.{TreeHistory, TreeCall, edit, undo, redo, new_history, after_call, after_calls, run_calls, ChangeLog, new_log, log_call, log_calls, TreeRedo, Represents, IsStep, IsValidLog, history_of}
 
@@ -21,7 +21,7 @@ RedoRepeatsEdit =
 
 -- an edit that does not apply has no change, for the same reason
 abbrev pub ChangeFailsAsEdit : Type 0
-ChangeFailsAsEdit = (t : Tree) (e : Edit) (r : Refusal) → edited_once e t ≡ Err r → change t e ≡ Err r
+ChangeFailsAsEdit = (t : Tree) (e : Edit) (r : EditRefusal) → edited_once e t ≡ Err r → change t e ≡ Err r
 
 -- ---- histories
 

@@ -3,7 +3,7 @@
 use Rattle.std.specs.Prelude.{◌≡◌, ◌⊎◌, ℕ, ◌+◌, ◌<◌, List, length, IfSome, None, false, Ok, Err}
 use Rattle.json_grammar.specs.Tree.{Tree}
 use Rattle.json_grammar.specs.Grammar.{is_text}
-use Rattle.json_model.specs.Edit.{Refusal, not_found, type_unmatched}
+use Rattle.json_model.specs.Edit.{EditRefusal, not_found, type_unmatched}
 use Rattle.json_layout.specs.Shown.{shown_as}
 use Rattle.json_io.specs.Known.{Appends}
 use Rattle.json_io.specs.Outside.{SourceState, SinkState, Rose, RoseBy}
@@ -34,7 +34,7 @@ pub record Replays (cs : List TreeCall) (source source' : SourceState) (sink sin
   pub flushed : sink'.unflushed ≡ false
 
 -- all was read, and the call with this number is the first edit that does not apply
-pub record ReadsInapplicable (cs : List TreeCall) (source source' : SourceState) (number : ℕ) (why : Refusal) : Type 0 where
+pub record ReadsInapplicable (cs : List TreeCall) (source source' : SourceState) (number : ℕ) (why : EditRefusal) : Type 0 where
   pub tree : Tree
   pub reads : ReadsInput usual_rules source source' tree
   pub refused : run_calls tree cs ≡ Err (number, why)

@@ -7,7 +7,7 @@ ghost use Rattle.json_history.specs.History.{history_of, run_call, run_calls_fro
 
 use crate::call::Call;
 use crate::history::History;
-use json_text::{Error, ErrorCode, Place, Result};
+use json_io::{Error, ErrorCode, Place, Result};
 use std::alloc::Global;
 
 // One call.
@@ -32,7 +32,7 @@ fn make_call(alloc: Global, history: &mut History, call: Call) -> Result<()>
 }
 
 // The error of one call, with its number. `NoMemory` has no place.
-fn numbered(error: Error, number: u32) -> Error
+fn error_at_call(error: Error, number: u32) -> Error
     ensures code { result.code ≡ error.code }
     ensures place { result.place ≡ numbered_place error.code error.place number }
 {
@@ -64,7 +64,7 @@ pub fn make_calls(alloc: Global, history: &mut History, calls: Vec<Call>) -> Res
     for call in calls {
         match make_call(alloc, history, call) {
             Ok(()) => number += 1,
-            Err(error) => return Err(numbered(error, number)),
+            Err(error) => return Err(error_at_call(error, number)),
         }
     }
     Ok(())

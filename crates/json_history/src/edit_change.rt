@@ -7,8 +7,8 @@ ghost use Rattle.json_model.specs.Edit.{index_step, key_step};
 ghost use Rattle.json_value.specs.Denotes.{tree_of, text_bytes};
 ghost use Rattle.json_value.specs.Edits.{edit_of, edit_path, path_steps};
 ghost use Rattle.json_value.specs.Seen.{seen, members_seen};
-ghost use Rattle.json_value.specs.SightParts.{members_sights};
-ghost use Rattle.json_value.specs.Sights.{sight_of, whole_value};
+ghost use Rattle.json_value.specs.TargetParts.{members_targets};
+ghost use Rattle.json_value.specs.ViewTargets.{view_target, whole_value};
 ghost use Rattle.json_value.specs.Written.{value_in};
 ghost use Rattle.json_history.specs.Change.{change, members_named};
 ghost use Rattle.json_history.specs.ChangeTrees.{tree_change_of, removed_member};
@@ -19,7 +19,7 @@ ghost use Rattle.json_io.specs.Errors.{OnlyNoMemory};
 use crate::change::Change;
 use crate::path_copy::{copy_path, path_with_key};
 use crate::taken::Taken;
-use json_text::Result;
+use json_io::Result;
 use json_value::{Edit, ObjectView, Pair, Path, PointerNode, Text, Value, View};
 use std::alloc::Global;
 
@@ -30,10 +30,10 @@ fn change_of_insert(
     path: &Path,
     key: &Text,
 ) -> Result<Option<Change>>
-    ensures told { IfOk result (λ o. option_map tree_change_of o
+    ensures tree_change { IfOk result (λ o. option_map tree_change_of o
         ≡ result_ok (insert_change_in (path_steps path.now) (text_bytes key.now)
         (seen target.entry))) }
-    ensures shares { ChangeShares (path_steps path.now) (sight_of target.entry) result }
+    ensures shares { ChangeShares (path_steps path.now) (view_target target.entry) result }
     ensures only { OnlyNoMemory result }
 {
     let Some(object) = target.as_object() else {
@@ -54,9 +54,9 @@ fn change_of_insert(
 
 // The change of a push; `None` if there is no array.
 fn change_of_push(alloc: Global, target: View<'_>, path: &Path) -> Result<Option<Change>>
-    ensures told { IfOk result (λ o. option_map tree_change_of o
+    ensures tree_change { IfOk result (λ o. option_map tree_change_of o
         ≡ result_ok (push_change_in (path_steps path.now) (seen target.entry))) }
-    ensures shares { ChangeShares (path_steps path.now) (sight_of target.entry) result }
+    ensures shares { ChangeShares (path_steps path.now) (view_target target.entry) result }
     ensures only { OnlyNoMemory result }
 {
     match target.as_array() {
@@ -75,10 +75,10 @@ fn change_of_removed_element(
     path: &Path,
     index: usize,
 ) -> Result<Option<Change>>
-    ensures told { IfOk result (λ o. option_map tree_change_of o
+    ensures tree_change { IfOk result (λ o. option_map tree_change_of o
         ≡ result_ok (remove_change_in (path_steps path.now) (index_step index)
         (seen target.entry))) }
-    ensures shares { ChangeShares (path_steps path.now) (sight_of target.entry) result }
+    ensures shares { ChangeShares (path_steps path.now) (view_target target.entry) result }
     ensures only { OnlyNoMemory result }
 {
     match target.get(index) {
@@ -95,7 +95,7 @@ fn change_of_removed_element(
 fn copy_member_at(alloc: Global, index: usize, key: &str, value: View<'_>) -> Result<(usize, Pair)>
     ensures member { IfOk result (λ e. removed_member e ≡ (index, key.now, seen value.entry)) }
     ensures index { IfOk result (λ e. e.0 ≡ index) }
-    ensures shares { IfOk result (λ e. SharesWith (sight_of value.entry) (value_in e.1)) }
+    ensures shares { IfOk result (λ e. SharesWith (view_target value.entry) (value_in e.1)) }
     ensures only { OnlyNoMemory result }
 {
     let key = Text::copy(alloc, key)?;
@@ -108,7 +108,7 @@ fn members_with_key(alloc: Global, object: ObjectView<'_>, key: &str) -> Result<
     ensures members { IfOk result (λ v. map removed_member v.items
         ≡ members_named 0 key.now (list_pairs (members_seen object.entry))) }
     ensures shares { IfOk result (λ v.
-        All (MemberShares (members_sights object.entry)) v.items) }
+        All (MemberShares (members_targets object.entry)) v.items) }
     ensures only { OnlyNoMemory result }
 {
     let mut list = Vec::new(alloc);
@@ -130,10 +130,10 @@ fn change_of_removed_members(
     path: &Path,
     key: &Text,
 ) -> Result<Option<Change>>
-    ensures told { IfOk result (λ o. option_map tree_change_of o
+    ensures tree_change { IfOk result (λ o. option_map tree_change_of o
         ≡ result_ok (remove_change_in (path_steps path.now) (key_step (text_bytes key.now))
         (seen target.entry))) }
-    ensures shares { ChangeShares (path_steps path.now) (sight_of target.entry) result }
+    ensures shares { ChangeShares (path_steps path.now) (view_target target.entry) result }
     ensures only { OnlyNoMemory result }
 {
     let Some(object) = target.as_object() else {
@@ -152,9 +152,9 @@ fn change_of_removed_members(
 
 // The change of the edit, where `target` is the value at its path; `None` if it does not apply.
 fn change_at(alloc: Global, target: View<'_>, edit: &Edit) -> Result<Option<Change>>
-    ensures told { IfOk result (λ o. option_map tree_change_of o
+    ensures tree_change { IfOk result (λ o. option_map tree_change_of o
         ≡ result_ok (change_in edit.now (seen target.entry))) }
-    ensures shares { ChangeShares (edit_path edit.now) (sight_of target.entry) result }
+    ensures shares { ChangeShares (edit_path edit.now) (view_target target.entry) result }
     ensures only { OnlyNoMemory result }
 {
     match edit {
@@ -174,7 +174,7 @@ fn change_at(alloc: Global, target: View<'_>, edit: &Edit) -> Result<Option<Chan
 
 // The change of the edit; `None` if it does not apply.
 pub(crate) fn change_of_edit(alloc: Global, value: &Value, edit: &Edit) -> Result<Option<Change>>
-    ensures told { IfOk result (λ o. option_map tree_change_of o
+    ensures tree_change { IfOk result (λ o. option_map tree_change_of o
         ≡ result_ok (change (tree_of value.now) (edit_of edit.now))) }
     ensures shares { IfOk result (λ o. IfSome o (SharesParts (whole_value value.now))) }
     ensures only { OnlyNoMemory result }

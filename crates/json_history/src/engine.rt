@@ -12,8 +12,9 @@ use crate::call::Call;
 use crate::calls::make_calls;
 use crate::history::History;
 use json_command::{print_value, read_document_from};
-use json_print::Style;
-use json_text::{Result, Rules, Sink, Source};
+use json_io::{Result, Sink, Source};
+use json_layout::Style;
+use json_text::Rules;
 use json_value::Value;
 use std::alloc::Global;
 
@@ -48,8 +49,8 @@ pub fn replay<S: Source, K: Sink>(
         (S.state source.old) (S.state source.new) (K.state sink.old) (K.state sink.new)
         e.code e.place) }
     ensures taken { TakesOneBeyond max_bytes (S.state source.old) (S.state source.new) }
-    ensures read_told { ReturnsReadError (S.state source.old) (S.state source.new) result }
-    ensures write_told { ReturnsWriteError (K.state sink.old) (K.state sink.new) result }
+    ensures read_error { ReturnsReadError (S.state source.old) (S.state source.new) result }
+    ensures write_error { ReturnsWriteError (K.state sink.old) (K.state sink.new) result }
 {
     let doc = read_document_from(alloc, source, Rules::usual())?;
     let value = Value::from_place(alloc, &doc, doc.root())?;

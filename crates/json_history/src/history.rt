@@ -15,7 +15,7 @@ ghost use Rattle.json_io.specs.Errors.{OnlyNoMemory};
 use crate::change::Change;
 use crate::redo::Redo;
 use crate::steps::{apply_and_log, keep_last, redo_next, undo_last};
-use json_text::Result;
+use json_io::Result;
 use json_value::{Edit, Value};
 use std::alloc::Global;
 

@@ -11,6 +11,7 @@
 //! ```
 #![tactic(auto)]
 
+mod arguments;
 mod call;
 mod calls;
 mod change;
@@ -26,8 +27,8 @@ mod restore;
 mod steps;
 mod taken;
 mod top;
-mod words;
 
+pub use arguments::requested_calls;
 pub use call::Call;
 pub use calls::make_calls;
 pub use change::Change;
@@ -35,4 +36,3 @@ pub use engine::replay;
 pub use history::History;
 pub use taken::Taken;
 pub use top::run_history;
-pub use words::asked;

@@ -5,7 +5,7 @@ ghost use Rattle.json_value.specs.Denotes.{text_bytes};
 ghost use Rattle.json_value.specs.Edits.{path_steps, step_of, steps_of};
 ghost use Rattle.json_io.specs.Errors.{OnlyNoMemory};
 
-use json_text::Result;
+use json_io::Result;
 use json_value::{Path, PointerNode, Text};
 use std::alloc::Global;
 

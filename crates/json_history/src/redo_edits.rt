@@ -6,8 +6,8 @@ ghost use Rattle.json_grammar.specs.Tree.{list_pairs, list_trees};
 ghost use Rattle.json_value.specs.Denotes.{tree_of};
 ghost use Rattle.json_value.specs.Edits.{edit_of, path_steps};
 ghost use Rattle.json_value.specs.Seen.{seen, members_seen, elements_seen};
-ghost use Rattle.json_value.specs.SightParts.{elements_sights, members_sights};
-ghost use Rattle.json_value.specs.Sights.{Sight, sight_of, whole_value};
+ghost use Rattle.json_value.specs.TargetParts.{elements_targets, members_targets};
+ghost use Rattle.json_value.specs.ViewTargets.{ViewTarget, view_target, whole_value};
 ghost use Rattle.json_history.specs.Change.{redo_edit, edit_of_last, last_member, last_element, edit_of_removal};
 ghost use Rattle.json_history.specs.ChangeTrees.{tree_change_of, removed_members};
 ghost use Rattle.json_history.specs.SharedParts.{EditShares, EditSharesParts, EditSharesElement, EditSharesMember};
@@ -16,7 +16,7 @@ ghost use Rattle.json_io.specs.Errors.{OnlyNoMemory};
 use crate::change::Change;
 use crate::path_copy::copy_path;
 use crate::taken::Taken;
-use json_text::Result;
+use json_io::Result;
 use json_value::{ArrayView, Edit, ObjectView, Path, PointerNode, Text, Value, View};
 use std::alloc::Global;
 
@@ -25,7 +25,7 @@ fn last_insert_edit(alloc: Global, object: ObjectView<'_>, path: &Path) -> Resul
     ensures edit { IfOk result (λ o. option_map edit_of o
         ≡ result_ok (within (λ e. insert_at (path_steps path.now) e.0 e.1)
         (last_member (list_pairs (members_seen object.entry))))) }
-    ensures shares { EditSharesMember (path_steps path.now) (members_sights object.entry) result }
+    ensures shares { EditSharesMember (path_steps path.now) (members_targets object.entry) result }
     ensures only { OnlyNoMemory result }
 {
     let len = object.len();
@@ -48,7 +48,7 @@ fn last_push_edit(alloc: Global, array: ArrayView<'_>, path: &Path) -> Result<Op
     ensures edit { IfOk result (λ o. option_map edit_of o
         ≡ result_ok (within (λ u. push_at (path_steps path.now) u)
         (last_element (list_trees (elements_seen array.entry))))) }
-    ensures shares { EditSharesElement (path_steps path.now) (elements_sights array.entry) result }
+    ensures shares { EditSharesElement (path_steps path.now) (elements_targets array.entry) result }
     ensures only { OnlyNoMemory result }
 {
     let len = array.len();
@@ -69,7 +69,7 @@ fn last_push_edit(alloc: Global, array: ArrayView<'_>, path: &Path) -> Result<Op
 fn last_edit(alloc: Global, target: View<'_>, path: &Path) -> Result<Option<Edit>>
     ensures edit { IfOk result (λ o. option_map edit_of o
         ≡ result_ok (edit_of_last (path_steps path.now) (seen target.entry))) }
-    ensures shares { EditShares (path_steps path.now) (sight_of target.entry) result }
+    ensures shares { EditShares (path_steps path.now) (view_target target.entry) result }
     ensures only { OnlyNoMemory result }
 {
     if let Some(object) = target.as_object() {
@@ -85,7 +85,7 @@ fn last_edit(alloc: Global, target: View<'_>, path: &Path) -> Result<Option<Edit
 fn set_edit(alloc: Global, target: View<'_>, path: &Path) -> Result<Option<Edit>>
     ensures edit { IfOk result (λ o. option_map edit_of o
         ≡ Some (set_at (path_steps path.now) (seen target.entry))) }
-    ensures shares { EditShares (path_steps path.now) (sight_of target.entry) result }
+    ensures shares { EditShares (path_steps path.now) (view_target target.entry) result }
     ensures only { OnlyNoMemory result }
 {
     let value = target.to_value(alloc)?;
@@ -94,10 +94,10 @@ fn set_edit(alloc: Global, target: View<'_>, path: &Path) -> Result<Option<Edit>
 }
 
 // The removal of the first member's key; `None` if there is no member.
-fn removal_edit(alloc: Global, taken: &Taken, path: &Path) -> Result<Option<Edit>>
+fn build_removal_edit(alloc: Global, taken: &Taken, path: &Path) -> Result<Option<Edit>>
     ensures edit { IfOk result (λ o. option_map edit_of o
         ≡ result_ok (edit_of_removal (path_steps path.now) (removed_members taken.now))) }
-    ensures shares { (root : Sight) → IfOk result (λ o. IfSome o (EditSharesParts root)) }
+    ensures shares { (root : ViewTarget) → IfOk result (λ o. IfSome o (EditSharesParts root)) }
     ensures only { OnlyNoMemory result }
 {
     if taken.len() == 0 {
@@ -136,6 +136,6 @@ pub(crate) fn edit_to_redo(alloc: Global, value: &Value, change: &Change) -> Res
                 step: PointerNode::Index(*index),
             }))
         }
-        Change::PutPairs { path, pairs } => removal_edit(alloc, pairs, path),
+        Change::PutPairs { path, pairs } => build_removal_edit(alloc, pairs, path),
     }
 }

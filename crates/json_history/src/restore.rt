@@ -14,8 +14,8 @@ ghost use Rattle.json_history.specs.Target.{undone_in, all_but_last};
 ghost use Rattle.json_io.specs.Errors.{OnlyNoMemory};
 
 use crate::change::Change;
-use crate::taken::{Taken, copy_members};
-use json_text::Result;
+use crate::taken::{Taken, copy_removed_members};
+use json_io::Result;
 use json_value::{Array, Object, Pair, Places, Value};
 use std::alloc::Global;
 
@@ -96,7 +96,7 @@ fn insert_into_array(array: &mut Array, alloc: Global, index: usize, old: &Value
 }
 
 // Inserts a copy of the element into an array, at an index of at most its length.
-fn insert_element(value: &mut Value, alloc: Global, index: usize, old: &Value) -> Result<()>
+fn restore_element(value: &mut Value, alloc: Global, index: usize, old: &Value) -> Result<()>
     requires { IsOk (on_list (insert_element_at index (tree_of old.now)) (tree_of value.old)) }
     ensures ok { OnOk result
         (Makes (on_list (insert_element_at index (tree_of old.now)) (tree_of value.old))
@@ -118,7 +118,7 @@ fn insert_element(value: &mut Value, alloc: Global, index: usize, old: &Value) -
 }
 
 // Inserts a member at an index. There is room for it.
-fn insert_member(pairs: &mut Vec<Pair>, index: usize, pair: Pair)
+fn restore_member(pairs: &mut Vec<Pair>, index: usize, pair: Pair)
     requires room { vec_len pairs.old < vec_capacity pairs.old }
     requires within { index ≤ vec_len pairs.old }
     ensures items { pairs.new.items ≡ insert pairs.old.items index pair }
@@ -139,7 +139,7 @@ fn insert_reserved_members(pairs: &mut Vec<Pair>, members: Vec<(usize, Pair)>)
     ensures items { pairs.new.items ≡ with_restored_members members.items pairs.old.items }
 {
     for (index, pair) in members {
-        insert_member(pairs, index, pair);
+        restore_member(pairs, index, pair);
     }
 }
 
@@ -156,7 +156,7 @@ fn insert_into_object(object: &mut Object, alloc: Global, taken: &Taken) -> Resu
         ((object.new ≡ object.old) ⊎ MembersTouched Same object.old object.new) }
     ensures only { OnlyNoMemory result }
 {
-    let members = copy_members(alloc, taken)?;
+    let members = copy_removed_members(alloc, taken)?;
     let pairs = object.pairs_mut(alloc)?;
     pairs.reserve(members.len())?;
     insert_reserved_members(pairs, members);
@@ -200,7 +200,7 @@ fn restore_target(place: &mut Value, alloc: Global, change: &Change) -> Result<(
             Ok(())
         }
         Change::DropLast { .. } => remove_last(place, alloc),
-        Change::PutBack { index, old, .. } => insert_element(place, alloc, *index, old),
+        Change::PutBack { index, old, .. } => restore_element(place, alloc, *index, old),
         Change::PutPairs { pairs, .. } => insert_members(place, alloc, pairs),
     }
 }

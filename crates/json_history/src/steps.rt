@@ -4,7 +4,7 @@ ghost use Rattle.std.specs.Vec.{vec_len, vec_capacity};
 ghost use Rattle.json_model.specs.Edit.{edited_once};
 ghost use Rattle.json_value.specs.Denotes.{tree_of};
 ghost use Rattle.json_value.specs.Edits.{edit_of, edit_path, FailsAs, Makes};
-ghost use Rattle.json_value.specs.Sights.{whole_value};
+ghost use Rattle.json_value.specs.ViewTargets.{whole_value};
 ghost use Rattle.json_value.specs.Touched.{Along, KeptAlong, Touches, KeepsOnRefusal};
 ghost use Rattle.json_history.specs.Change.{undone, redo_edit};
 ghost use Rattle.json_history.specs.ChangeTrees.{tree_change_of, change_path};
@@ -20,7 +20,7 @@ use crate::edit_change::change_of_edit;
 use crate::redo::Redo;
 use crate::redo_edits::edit_to_redo;
 use crate::restore::restore;
-use json_text::Result;
+use json_io::Result;
 use json_value::{Edit, Value, put};
 use std::alloc::Global;
 

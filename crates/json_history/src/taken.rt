@@ -5,7 +5,7 @@ ghost use Rattle.json_history.specs.ChangeTrees.{removed_members, removed_member
 ghost use Rattle.json_history.specs.Restores.{member_origin, origins_of};
 ghost use Rattle.json_io.specs.Errors.{OnlyNoMemory};
 
-use json_text::Result;
+use json_io::Result;
 use json_value::{Pair, Text};
 use std::alloc::Global;
 
@@ -61,7 +61,7 @@ fn copy_member(alloc: Global, member: &(usize, Pair)) -> Result<(usize, Pair)>
 }
 
 // Copies of the members with their indexes.
-pub(crate) fn copy_members(alloc: Global, taken: &Taken) -> Result<Vec<(usize, Pair)>>
+pub(crate) fn copy_removed_members(alloc: Global, taken: &Taken) -> Result<Vec<(usize, Pair)>>
     ensures members { IfOk result (λ v. map removed_member v.items ≡ removed_members taken.now) }
     ensures origins { IfOk result (λ v. map member_origin v.items ≡ origins_of taken.now) }
     ensures only { OnlyNoMemory result }

@@ -3,7 +3,7 @@ ghost use Rattle.std.specs.Prelude.{ℕ, List, ◌≡◌, ◌≢◌, ◌⊎◌, 
 ghost use Rattle.json_io.specs.Transfer.{TakesOneBeyond};
 ghost use Rattle.json_io.specs.declared.error.ErrorCode.{ErrorCode};
 ghost use Rattle.json_io.specs.declared.error.Place.{Place};
-ghost use Rattle.json_model.specs.Edit.{Refusal};
+ghost use Rattle.json_model.specs.Edit.{EditRefusal};
 ghost use Rattle.json_command.specs.Input.{max_bytes};
 ghost use Rattle.json_command.specs.Printing.{ReturnsWriteError};
 ghost use Rattle.json_command.specs.Reading.{ReturnsReadError};
@@ -15,29 +15,29 @@ ghost use Rattle.json_history.specs.Replay.{Replays};
 ghost use Rattle.json_history.specs.Run.{WithCalls, RunFails, RunSucceeds, RunReports, IsApplicable, IsInapplicable, IsInvalid};
 ghost use Rattle.json_command.specs.Statuses.{ReturnsReadStatus, ReturnsWriteStatus};
 
+use crate::arguments::requested_calls;
 use crate::engine::replay;
-use crate::words::asked;
 use json_command::{Status, report};
-use json_text::{Result, Sink, Source, Words};
+use json_io::{Result, Sink, Source, Words};
 use std::alloc::Global;
 
 // Reads, makes the calls that the words ask for, and writes.
-fn execute<S: Source, K: Sink>(
+fn apply_calls<S: Source, K: Sink>(
     alloc: Global,
-    words: &Words,
+    arguments: &Words,
     source: &mut S,
     sink: &mut K,
 ) -> Result<()>
-    ensures done { OnOk result (WithCalls words.now (λ cs. Replays cs
+    ensures done { OnOk result (WithCalls arguments.now (λ cs. Replays cs
         (S.state source.old) (S.state source.new) (K.state sink.old) (K.state sink.new))) }
-    ensures failed { IfErr result (λ e. RunFails words.now
+    ensures failed { IfErr result (λ e. RunFails arguments.now
         (S.state source.old) (S.state source.new)
         (K.state sink.old) (K.state sink.new) e.code e.place) }
     ensures taken { TakesOneBeyond max_bytes (S.state source.old) (S.state source.new) }
-    ensures read_told { ReturnsReadError (S.state source.old) (S.state source.new) result }
-    ensures write_told { ReturnsWriteError (K.state sink.old) (K.state sink.new) result }
+    ensures read_error { ReturnsReadError (S.state source.old) (S.state source.new) result }
+    ensures write_error { ReturnsWriteError (K.state sink.old) (K.state sink.new) result }
 {
-    let calls = asked(alloc, words)?;
+    let calls = requested_calls(alloc, arguments)?;
     replay(alloc, source, sink, calls)
 }
 
@@ -58,32 +58,32 @@ fn execute<S: Source, K: Sink>(
 /// On 1 to 6 the text of the error goes to `errs`.
 pub fn run_history<S: Source, K: Sink, E: Sink>(
     alloc: Global,
-    words: &Words,
+    arguments: &Words,
     source: &mut S,
     sink: &mut K,
     errs: &mut E,
 ) -> u8
-    ensures done { result ≡ 0 → RunSucceeds words.now (S.state source.old) (S.state source.new)
+    ensures done { result ≡ 0 → RunSucceeds arguments.now (S.state source.old) (S.state source.new)
         (K.state sink.old) (K.state sink.new) (E.state errs.old) (E.state errs.new) }
-    ensures failed { result ≢ 0 → RunReports result words.now
+    ensures failed { result ≢ 0 → RunReports result arguments.now
         (S.state source.old) (S.state source.new)
         (K.state sink.old) (K.state sink.new) (E.state errs.old) (E.state errs.new) }
     ensures taken { TakesOneBeyond max_bytes (S.state source.old) (S.state source.new) }
-    ensures read_told { ReturnsReadStatus (S.state source.old) (S.state source.new) result }
-    ensures write_told { ReturnsWriteStatus (K.state sink.old) (K.state sink.new) result }
-    ensures complete { IsApplicable words.now (S.state source.old) (S.state source.new)
+    ensures read_error { ReturnsReadStatus (S.state source.old) (S.state source.new) result }
+    ensures write_error { ReturnsWriteStatus (K.state sink.old) (K.state sink.new) result }
+    ensures complete { IsApplicable arguments.now (S.state source.old) (S.state source.new)
         (K.state sink.old) (K.state sink.new) → (result ≡ 0) ⊎ (result ≡ 6) }
-    ensures inapplicable { (number : ℕ) (why : Refusal)
-        → IsInapplicable words.now (S.state source.old) (S.state source.new) number why
+    ensures inapplicable { (number : ℕ) (why : EditRefusal)
+        → IsInapplicable arguments.now (S.state source.old) (S.state source.new) number why
         → StatusReports 3 (edit_error number why) (E.state errs.old) (E.state errs.new) result }
     ensures exact { (code : ErrorCode) (place : Place)
-        → IsInvalid words.now (S.state source.old) (S.state source.new) code place
+        → IsInvalid arguments.now (S.state source.old) (S.state source.new) code place
         → StatusReports 1 (record { code = code; place = place })
         (E.state errs.old) (E.state errs.new) result }
-    ensures words { ((cs : List TreeCall) → ¬ (AsksForCalls words.now cs)) → (result ≡ 2)
+    ensures arguments { ((cs : List TreeCall) → ¬ (AsksForCalls arguments.now cs)) → (result ≡ 2)
         ⊎ (result ≡ 6) }
 {
-    match execute(alloc, words, source, sink) {
+    match apply_calls(alloc, arguments, source, sink) {
         Ok(()) => Status::Success.number(),
         Err(error) => {
             report(errs, &error);

@@ -87,8 +87,8 @@ pub two_pieces : (o p q b : List ℕ) (i j k : ℕ) → i ≤ j → j ≤ k → 
 two_pieces o p q b i j k l m f g = g ∙ ap (λ x. x ++ slice_range b j k) f ∙ append_assoc o (slice_range b i j) (slice_range b j k) ∙ ap (λ x. o ++ x) (sym (piece_append b i j k l m))
 
 -- an appended piece, cut after n bytes of it
-pub cut_behind : (o p r b : List ℕ) (i j n : ℕ) → i + n ≤ j → p ≡ o ++ slice_range b i j → r ≡ take (length o + n) p → r ≡ o ++ slice_range b i (i + n)
-cut_behind o p r b i j n l f h =
+pub cut_after : (o p r b : List ℕ) (i j n : ℕ) → i + n ≤ j → p ≡ o ++ slice_range b i j → r ≡ take (length o + n) p → r ≡ o ++ slice_range b i (i + n)
+cut_after o p r b i j n l f h =
     h ∙ ap (take (length o + n)) f ∙ take-append-add o (slice_range b i j) n
     ∙ ap (λ x. o ++ x) (take-take n (j - i) (drop i b) (omega arith) ∙ ap (λ x. take x (drop i b)) (omega arith))
 

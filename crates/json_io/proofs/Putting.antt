@@ -32,11 +32,11 @@ AppendsFront-then a b c p q g h =
 -- nothing was to be written
 pub Puts-nil : (s : SinkState) → Puts s s [] (Ok tt)
 Puts-nil s =
-    record { ok = Appends-nil s.gained; err = tt; faults_ok = refl; lacks_ok = refl; cause = tt; told = λ l. absurd (omega (arith, l)); later = record { faults = omega arith; lacks = omega arith; same_loan = refl } }
+    record { ok = Appends-nil s.gained; err = tt; faults_ok = refl; lacks_ok = refl; cause = tt; reported = λ l. absurd (omega (arith, l)); later = record { faults = omega arith; lacks = omega arith; same_loan = refl } }
 
 -- the first of two failed
 pub Puts-first : (a b : SinkState) (p q : List ℕ) (e : Error) → Puts a b p (Err e) → Puts a b (p ++ q) (Err e)
-Puts-first a b p q e h = record { ok = tt; err = AppendsFront-first a.gained b.gained p q h.err; faults_ok = tt; lacks_ok = tt; cause = h.cause; told = h.told; later = h.later }
+Puts-first a b p q e h = record { ok = tt; err = AppendsFront-first a.gained b.gained p q h.err; faults_ok = tt; lacks_ok = tt; cause = h.cause; reported = h.reported; later = h.later }
 
 cause_then : (a b c : SinkState) (code : ErrorCode) (place : Place) → Later a b → WritingCause b c code place → WritingCause a c code place
 cause_then a b c NoMemory nowhere l h = omega (arith, l.lacks, h)
@@ -55,12 +55,12 @@ Puts-then a b c p q u (Ok v) g h =
       faults_ok = h.faults_ok ∙ g.faults_ok;
       lacks_ok = h.lacks_ok ∙ g.lacks_ok;
       cause = tt;
-      told = λ l. absurd (two l);
+      reported = λ l. absurd (two l);
       later = record { faults = omega (arith, g.later.faults, h.later.faults); lacks = omega (arith, g.later.lacks, h.later.lacks); same_loan = h.later.same_loan ∙ g.later.same_loan };
     }
   where
     two : a.faults < c.faults → ⊥
-    two l = elim (cases_lt a.faults b.faults) [ inl m ↦ ok_no_error u _ (g.told m) | inr m ↦ ok_no_error v _ (h.told (omega arith)) ]
+    two l = elim (cases_lt a.faults b.faults) [ inl m ↦ ok_no_error u _ (g.reported m) | inr m ↦ ok_no_error v _ (h.reported (omega arith)) ]
 Puts-then a b c p q u (Err e) g h =
     record {
       ok = tt;
@@ -68,7 +68,7 @@ Puts-then a b c p q u (Err e) g h =
       faults_ok = tt;
       lacks_ok = tt;
       cause = cause_then a b c e.code e.place g.later h.cause;
-      told = λ l. elim (cases_lt a.faults b.faults) [ inl m ↦ absurd (ok_no_error u _ (g.told m)) | inr m ↦ h.told (omega arith) ];
+      reported = λ l. elim (cases_lt a.faults b.faults) [ inl m ↦ absurd (ok_no_error u _ (g.reported m)) | inr m ↦ h.reported (omega arith) ];
       later = record { faults = omega (arith, g.later.faults, h.later.faults); lacks = omega (arith, g.later.lacks, h.later.lacks); same_loan = h.later.same_loan ∙ g.later.same_loan };
     }
 
@@ -82,7 +82,7 @@ Puts-refused old mid new at piece rest Failed e h w f n =
       faults_ok = tt;
       lacks_ok = tt;
       cause = rw (← h.no_fault) (w.counts.failed refl);
-      told = λ l. refl;
+      reported = λ l. refl;
       later = record { faults = omega (arith, h.no_fault, w.counts.faults_later); lacks = omega (arith, h.no_lack, w.counts.lacks_later); same_loan = w.counts.same_loan ∙ h.same_loan };
     })
 Puts-refused old mid new at piece rest sink_error.NoMemory e h w f n =
@@ -92,7 +92,7 @@ Puts-refused old mid new at piece rest sink_error.NoMemory e h w f n =
       faults_ok = tt;
       lacks_ok = tt;
       cause = rw (← h.no_lack) (w.counts.lacking refl);
-      told = λ l. absurd (omega (arith, l, h.no_fault, w.counts.lacking_faults refl));
+      reported = λ l. absurd (omega (arith, l, h.no_fault, w.counts.lacking_faults refl));
       later = record { faults = omega (arith, h.no_fault, w.counts.faults_later); lacks = omega (arith, h.no_lack, w.counts.lacks_later); same_loan = w.counts.same_loan ∙ h.same_loan };
     })
 
@@ -105,7 +105,7 @@ Puts-written old new piece n w =
       faults_ok = w.counts.faults_ok;
       lacks_ok = w.counts.lacks_ok;
       cause = tt;
-      told = λ l. absurd (omega (arith, l, w.counts.faults_ok));
+      reported = λ l. absurd (omega (arith, l, w.counts.faults_ok));
       later = record { faults = w.counts.faults_later; lacks = w.counts.lacks_later; same_loan = w.counts.same_loan };
     }
 

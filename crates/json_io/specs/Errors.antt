@@ -10,15 +10,15 @@ use Rattle.json_io.specs.declared.error.Place.{Place}
 use Rattle.json_io.specs.declared.error.Place.TheVariants as place
 
 -- the name of a code, its number and its category
-pub record Row : Type 0 where
+pub record CodeRow : Type 0 where
   pub name : List ℕ
   pub number : ℕ
   pub category : Category
 
-abbrev pub code_row : List ℕ → ℕ → Category → Row
+abbrev pub code_row : List ℕ → ℕ → Category → CodeRow
 code_row n k c = record { name = n; number = k; category = c }
 
-abbrev pub row_of_code : ErrorCode → Row
+abbrev pub row_of_code : ErrorCode → CodeRow
 row_of_code code.NoMemory = code_row (codes "NoMemory") 1 category.Memory
 row_of_code code.Io = code_row (codes "Io") 2 category.Io
 row_of_code code.TooLarge = code_row (codes "TooLarge") 3 category.Limit
@@ -100,8 +100,8 @@ abbrev pub out_of_range : Error
 out_of_range = record { code = code.NumberOutOfRange; place = place.None }
 
 -- a key that is written has no text
-abbrev pub key_refused : Error
-key_refused = record { code = code.SerExpectKeyIsStrOrNum; place = place.None }
+abbrev pub key_has_no_text : Error
+key_has_no_text = record { code = code.SerExpectKeyIsStrOrNum; place = place.None }
 
 -- the words have another form
 abbrev pub bad_words : Error

@@ -6,16 +6,16 @@ use Rattle.json_io.specs.declared.error.Place.{Place}
 use Rattle.json_io.specs.declared.error.Place.TheVariants as place
 
 -- the text of a place, after a name
-abbrev pub place_text : Place → List ℕ
-place_text place.None = []
-place_text (place.At offset line column) = codes " at offset " ++ decimal offset ++ codes ", line " ++ decimal line ++ codes " column " ++ decimal column
-place_text place.Reading = codes " while reading"
-place_text place.Writing = codes " while writing"
-place_text (place.Edit number) = codes " in edit " ++ decimal number
+abbrev pub text_of_place : Place → List ℕ
+text_of_place place.None = []
+text_of_place (place.At offset line column) = codes " at offset " ++ decimal offset ++ codes ", line " ++ decimal line ++ codes " column " ++ decimal column
+text_of_place place.Reading = codes " while reading"
+text_of_place place.Writing = codes " while writing"
+text_of_place (place.Edit number) = codes " in edit " ++ decimal number
 
 -- the name and the place
 abbrev pub message_of : Error → List ℕ
-message_of error = name_of error.code ++ place_text error.place
+message_of error = name_of error.code ++ text_of_place error.place
 
 -- the same and one byte 0A
 abbrev pub text_of : Error → List ℕ

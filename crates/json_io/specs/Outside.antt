@@ -2,7 +2,7 @@
 use Rattle.std.specs.Prelude.{◌≡◌, ℕ, ◌+◌, ◌-◌, ◌^◌, ◌<◌, ◌≤◌, min, max, Bool, false, List, [], length, take, OnOk, OnErr, IfOk, IsErrOf, Result}
 use Rattle.std.specs.declared.option.Option.{Option}
 use Rattle.std.specs.Borrow.{GName}
-use Rattle.json_io.specs.Known.{Keeps, Consumes, WriteAppends, told_as}
+use Rattle.json_io.specs.Known.{Keeps, Consumes, WriteAppends, if_known}
 use Rattle.json_io.specs.declared.source.Failed.{Failed}
 use Rattle.json_io.specs.declared.sink.SinkError.{SinkError}
 use Rattle.json_io.specs.declared.sink.SinkError.TheVariants as sink_error
@@ -36,7 +36,7 @@ pub record Reads (old new : SourceState) (buf : List ℕ) (result : Result ℕ F
   pub gives : IfOk result (λ n. Consumes old.left new.left (take n buf))
   pub given_ok : IfOk result (λ n. new.given ≡ counted n old.given)
   pub faults_ok : OnOk result (new.faults ≡ old.faults)
-  pub ends : IfOk result (λ n. n ≡ 0 → 0 < length buf → new.left ≡ told_as old.left [])
+  pub ends : IfOk result (λ n. n ≡ 0 → 0 < length buf → new.left ≡ if_known old.left [])
   pub left_err : OnErr result (Keeps old.left new.left)
   pub given_err : OnErr result (new.given ≡ old.given)
   pub faults_err : OnErr result (Rose old.faults new.faults)

@@ -40,10 +40,10 @@ PieceCause old new code place = ⊥
 
 -- at most n bytes were taken
 pub record TakesAtMost (n : ℕ) (old new : SourceState) : Type 0 where
-  pub taken : List ℕ
-  pub few : length taken ≤ n
-  pub consumed : Consumes old.left new.left taken
-  pub given_so : new.given ≡ counted (length taken) old.given
+  pub take_vec : List ℕ
+  pub few : length take_vec ≤ n
+  pub consumed : Consumes old.left new.left take_vec
+  pub given_so : new.given ≡ counted (length take_vec) old.given
   pub faults_later : old.faults ≤ new.faults
 
 -- ---- writing
@@ -74,7 +74,7 @@ pub record Puts (old new : SinkState) (piece : List ℕ) (result : Result (Unit 
   pub faults_ok : OnOk result (new.faults ≡ old.faults)
   pub lacks_ok : OnOk result (new.lacks ≡ old.lacks)
   pub cause : IfErr result (λ e. WritingCause old new e.code e.place)
-  pub told : old.faults < new.faults → IsErrOf result writing_failed
+  pub reported : old.faults < new.faults → IsErrOf result writing_failed
   pub later : Later old new
 
 -- what waited was sent
@@ -82,7 +82,7 @@ pub record FlushesAll (old new : SinkState) (result : Result (Unit {0}) Error) :
   pub keeps : Keeps old.gained new.gained
   pub ok : OnOk result (new.unflushed ≡ false)
   pub cause : IfErr result (λ e. WritingCause old new e.code e.place)
-  pub told : old.faults < new.faults → IsErrOf result writing_failed
+  pub reported : old.faults < new.faults → IsErrOf result writing_failed
   pub later : Later old new
 
 -- at most one byte more than the limit was taken

@@ -204,7 +204,7 @@ fn extended_long(mut out: Vec<u8>, bytes: &[u8]) -> Vec<u8>
 /// Moves the vector out and leaves an empty one without room, until the caller puts it back. Held
 /// by value, its pointer is not read again at each byte.
 #[inline(always)]
-pub fn taken(out: &mut Vec<u8>) -> Vec<u8>
+pub fn take_vec(out: &mut Vec<u8>) -> Vec<u8>
     ensures { result ≡ out.old }
 {
     let alloc = *out.allocator();
@@ -224,7 +224,7 @@ pub fn extend_local(out: &mut Vec<u8>, bytes: &[u8])
         4..8 => append_by_four(out, bytes),
         8..16 => append_by_eight(out, bytes),
         16..33 => append_by_sixteen(out, bytes),
-        _ => *out = extended_long(taken(out), bytes),
+        _ => *out = extended_long(take_vec(out), bytes),
     }
 }
 
@@ -243,7 +243,7 @@ pub fn extend_reserved(out: &mut Vec<u8>, bytes: &[u8])
     ensures len { vec_len out.new ≡ vec_len out.old + length bytes.now }
     ensures capacity { vec_capacity out.new ≡ vec_capacity out.old }
 {
-    let mut text = taken(out);
+    let mut text = take_vec(out);
     extend_local(&mut text, bytes);
     *out = text;
 }

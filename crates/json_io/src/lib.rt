@@ -24,14 +24,14 @@ mod words;
 
 pub use append::{
     append_few, append_of_block, extend_local, extend_reserved, extend_reserved_blocks,
-    extend_reserved_from, taken,
+    extend_reserved_from, take_vec,
 };
 pub use error::{Category, Error, ErrorCode, Place, Result};
 pub use fake::{FakeSink, FakeSource};
 pub use lent::LentSink;
 pub use message::{FaultText, fault_text};
 pub use place::place_of;
-pub use sink::{Sink, SinkError, StdSink, VecSink};
+pub use sink::{Sink, SinkError, SinkResult, StdSink, VecSink};
 pub use source::{Failed, SliceSource, Source, StdSource};
 pub use transfer::{flush_all, put_all, read_all};
 pub use utf8::check_utf8;

@@ -1,6 +1,6 @@
 // The text of a refusal, in a field of its own.
 ghost use Rattle.std.specs.Prelude.{Some, ◌≡◌, ℕ, ◌+◌, ◌≤◌, List, [], ◌++◌, length, take, decimal};
-ghost use Rattle.json_io.specs.FaultText.{place_text, message_of, text_of};
+ghost use Rattle.json_io.specs.FaultText.{text_of_place, message_of, text_of};
 ghost use Rattle.json_io.specs.Errors.{name_of};
 
 use crate::{Error, Place};

@@ -25,6 +25,9 @@ pub enum SinkError {
     NoMemory,
 }
 
+/// What a call of a sink returns that takes or flushes all: nothing, or why it failed.
+pub type SinkResult = std::result::Result<(), SinkError>;
+
 /// Where bytes are written. A write may take a prefix of its piece; `put_all` writes the whole.
 ///
 /// ```

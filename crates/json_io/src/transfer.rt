@@ -1,7 +1,7 @@
 // Reads a source to its end, and puts a whole piece into a sink.
 ghost use Rattle.std.specs.Prelude.{◌≡◌, ◌+◌, ◌<◌, ◌≤◌, [], length, take, drop, vec_len, IfOk, IfErr, IsErrOf};
 ghost use Rattle.json_io.specs.Errors.{no_memory, reading_failed, writing_failed};
-ghost use Rattle.json_io.specs.Known.{told_as};
+ghost use Rattle.json_io.specs.Known.{if_known};
 ghost use Rattle.json_io.specs.Transfer.{Gives, ReadsWithin, ReadingCause, PieceCause, TakesAtMost, FlushesAll, Puts};
 
 use crate::{Error, ErrorCode, Failed, Place, Result, Sink, SinkError, Source};
@@ -25,7 +25,7 @@ pub fn read_all<S: Source>(alloc: Global, source: &mut S, limit: usize) -> Resul
         ReadsWithin limit (S.state source.old) (S.state source.new) v.items) }
     ensures cause { IfErr result (λ e.
         ReadingCause limit (S.state source.old) (S.state source.new) e.code e.place) }
-    ensures told { (S.state source.old).faults < (S.state source.new).faults
+    ensures read_error { (S.state source.old).faults < (S.state source.new).faults
         → IsErrOf result reading_failed }
     ensures taken { TakesAtMost (limit + 1) (S.state source.old) (S.state source.new) }
 {
@@ -65,7 +65,7 @@ fn read_piece<S: Source>(
     ensures gives { IfOk result (λ n.
         Gives (S.state source.old) (S.state source.new) (take n (drop filled bytes.new.items))) }
     ensures end { IfOk result (λ n.
-        n ≡ 0 → (S.state source.new).left ≡ told_as (S.state source.old).left []) }
+        n ≡ 0 → (S.state source.new).left ≡ if_known (S.state source.old).left []) }
     ensures cause { IfErr result (λ e.
         PieceCause (S.state source.old) (S.state source.new) e.code e.place) }
 {
@@ -85,7 +85,7 @@ fn read_at<S: Source>(source: &mut S, buf: &mut [u8], at: usize, room: usize) ->
     ensures gives { IfOk result (λ n.
         Gives (S.state source.old) (S.state source.new) (take n (drop at buf.new))) }
     ensures end { IfOk result (λ n.
-        n ≡ 0 → (S.state source.new).left ≡ told_as (S.state source.old).left []) }
+        n ≡ 0 → (S.state source.new).left ≡ if_known (S.state source.old).left []) }
     ensures cause { IfErr result (λ e.
         PieceCause (S.state source.old) (S.state source.new) e.code e.place) }
 {

@@ -7,7 +7,7 @@ use Rattle.std.proofs.lemmas.List.{length-drop, take_all, take-append-drop, drop
 use Rattle.json_io.specs.declared.sink.SinkError.{SinkError}
 use Rattle.json_io.specs.Outside.{SinkState, Counts, Writes, Flushes}
 use Rattle.json_layout.specs.Adding.{Adds, Sends}
-use Rattle.json_layout.specs.Buffered.{held_behind}
+use Rattle.json_layout.specs.Buffered.{held_after}
 use Rattle.json_layout.proofs.Pieces.{counts_from, counts_err}
 
 -- so far these went to the inner sink, and no call failed
@@ -60,7 +60,7 @@ sent_failed old mid new buffer rest from to e h w =
 
 -- ---- a sink with bytes after it
 
-pub held_none : (s : SinkState) → held_behind s [] ≡ s
+pub held_none : (s : SinkState) → held_after s [] ≡ s
 held_none s = ap (λ (g : Option (List ℕ)). let r : SinkState = record s { gained = g } in r) (known-nil s.gained)
 
 -- the bytes went from the one to the other
@@ -70,7 +70,7 @@ moved a b buffer from to h =
     (sym (take-append-drop (to - from) (drop from buffer)) ∙ ap (λ x. take (to - from) (drop from buffer) ++ x) (drop_on buffer from to h.later))
 
 -- the counts are those of the inner sink
-counts_held : {T : Type 0} {r : Result T SinkError} (a b : SinkState) (p q : List ℕ) → Counts a b r → Counts (held_behind a p) (held_behind b q) r
+counts_held : {T : Type 0} {r : Result T SinkError} (a b : SinkState) (p q : List ℕ) → Counts a b r → Counts (held_after a p) (held_after b q) r
 counts_held a b p q h =
     record {
       faults_ok = h.faults_ok;
@@ -84,16 +84,16 @@ counts_held a b p q h =
       same_loan = h.same_loan;
     }
 
-pub send_failed : (a b : SinkState) (buffer piece : List ℕ) (from to : ℕ) (e : SinkError) → Sends a b buffer from to (Err e) → Writes (held_behind a (drop from buffer)) (held_behind b (drop to buffer)) piece (Err e)
+pub send_failed : (a b : SinkState) (buffer piece : List ℕ) (from to : ℕ) (e : SinkError) → Sends a b buffer from to (Err e) → Writes (held_after a (drop from buffer)) (held_after b (drop to buffer)) piece (Err e)
 send_failed a b buffer piece from to e h = record { progress = tt; appends = moved a b buffer from to h; counts = counts_held a b _ _ (counts_err a b h.counts) }
 
-pub flush_failed : (a b : SinkState) (buffer : List ℕ) (from to : ℕ) (e : SinkError) → Sends a b buffer from to (Err e) → Flushes (held_behind a (drop from buffer)) (held_behind b (drop to buffer)) (Err e)
+pub flush_failed : (a b : SinkState) (buffer : List ℕ) (from to : ℕ) (e : SinkError) → Sends a b buffer from to (Err e) → Flushes (held_after a (drop from buffer)) (held_after b (drop to buffer)) (Err e)
 flush_failed a b buffer from to e h = record { keeps = moved a b buffer from to h; flushed = tt; counts = counts_held a b _ _ h.counts }
 
 -- ---- what is put after what is held
 
 -- the bytes went from the one to the other, and nothing was added
-pub sent_on : (a b : SinkState) (buffer : List ℕ) (from to : ℕ) (r : Result (Unit {0}) SinkError) → Sends a b buffer from to r → Adds (held_behind a (drop from buffer)) (held_behind b (drop to buffer)) [] r
+pub sent_on : (a b : SinkState) (buffer : List ℕ) (from to : ℕ) (r : Result (Unit {0}) SinkError) → Sends a b buffer from to r → Adds (held_after a (drop from buffer)) (held_after b (drop to buffer)) [] r
 sent_on a b buffer from to (Ok u) h =
     record { ok = moved a b buffer from to h ∙ Appends-nil (append_known a.gained (drop from buffer)); err = tt; counts = counts_held a b _ _ h.counts }
 sent_on a b buffer from to (Err e) h =
@@ -104,6 +104,6 @@ sent_on a b buffer from to (Err e) h =
     }
 
 -- ... until all is sent
-pub all_sent : (a b : SinkState) (buffer : List ℕ) (from to : ℕ) (u : Unit {0}) → Sends a b buffer from to (Ok u) → Adds (held_behind a (drop from buffer)) (held_behind b []) [] (Ok u)
+pub all_sent : (a b : SinkState) (buffer : List ℕ) (from to : ℕ) (u : Unit {0}) → Sends a b buffer from to (Ok u) → Adds (held_after a (drop from buffer)) (held_after b []) [] (Ok u)
 all_sent a b buffer from to u h =
-    subst (λ x. Adds (held_behind a (drop from buffer)) (held_behind b x) [] (Ok u)) (drop_all to buffer (omega (arith, h.all))) (sent_on a b buffer from to (Ok u) h)
+    subst (λ x. Adds (held_after a (drop from buffer)) (held_after b x) [] (Ok u)) (drop_all to buffer (omega (arith, h.all))) (sent_on a b buffer from to (Ok u) h)

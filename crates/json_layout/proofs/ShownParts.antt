@@ -96,20 +96,20 @@ Adds-same a b p q r e h = subst (λ x. Adds a b x r) e h
 -- ---- returned to a caller
 
 pub written_ok : {n : ℕ} (old new : SinkState) (text : List ℕ) (u v : Unit {0}) → Shows n old new text (Ok u) → WritesText old new text (Ok v)
-written_ok old new text u v h = record { ok = h.ok; calm = h.faults_ok; prefix = tt; cause = tt; told = λ l. absurd (omega (arith, l, h.faults_ok)); same_loan = h.same_loan }
+written_ok old new text u v h = record { ok = h.ok; calm = h.faults_ok; prefix = tt; cause = tt; reported = λ l. absurd (omega (arith, l, h.faults_ok)); same_loan = h.same_loan }
 
 front_begins : (a b : Option (List ℕ)) (text : List ℕ) → AppendsFront a b text → Begins b (append_known a text)
 front_begins a b text h = record { back = h.back; whole = ap (append_known a) h.whole ∙ sym (known-append a h.front h.back) ∙ ap (λ k. append_known k h.back) (sym h.gains) }
 
 pub written_err : {n : ℕ} (old new : SinkState) (text : List ℕ) (failure : SinkError) (e : Error) → (failure ≡ sink_error.Failed → e ≡ writing_failed) → (failure ≡ sink_error.NoMemory → e ≡ no_memory) → Shows n old new text (Err failure) → WritesText old new text (Err e)
 written_err old new text sink_error.Failed e f n h =
-    rw (f refl) (record { ok = tt; calm = tt; prefix = front_begins old.gained new.gained text h.err; cause = h.failed refl; told = λ l. refl; same_loan = h.same_loan })
+    rw (f refl) (record { ok = tt; calm = tt; prefix = front_begins old.gained new.gained text h.err; cause = h.failed refl; reported = λ l. refl; same_loan = h.same_loan })
 written_err old new text sink_error.NoMemory e f n h =
-    rw (n refl) (record { ok = tt; calm = tt; prefix = front_begins old.gained new.gained text h.err; cause = tt; told = λ l. absurd (omega (arith, l, h.lacking refl)); same_loan = h.same_loan })
+    rw (n refl) (record { ok = tt; calm = tt; prefix = front_begins old.gained new.gained text h.err; cause = tt; reported = λ l. absurd (omega (arith, l, h.lacking refl)); same_loan = h.same_loan })
 
 -- what ran out was memory
-pub told_ran_out : (n : ℕ) (old new : SinkState) (text : List ℕ) (failure : SinkError) (e : Error) → (failure ≡ sink_error.Failed → e ≡ writing_failed) → Shows n old new text (Err failure) → IsErrOf {T = Unit {0}} (Err e) no_memory → RanOut old new (n + length text)
-told_ran_out n old new text sink_error.Failed e f h is =
+pub reported_ran_out : (n : ℕ) (old new : SinkState) (text : List ℕ) (failure : SinkError) (e : Error) → (failure ≡ sink_error.Failed → e ≡ writing_failed) → Shows n old new text (Err failure) → IsErrOf {T = Unit {0}} (Err e) no_memory → RanOut old new (n + length text)
+reported_ran_out n old new text sink_error.Failed e f h is =
     let told : e ≡ no_memory = cc in
     let other : code.Io ≡ code.NoMemory = ap (λ (x : Error). x.code) (sym (f refl) ∙ told) in absurd (cc)
-told_ran_out n old new text sink_error.NoMemory e f h is = h.ran_out refl
+reported_ran_out n old new text sink_error.NoMemory e f h is = h.ran_out refl

@@ -5,8 +5,8 @@ use Rattle.json_io.specs.Outside.{SinkState}
 use Rattle.json_layout.specs.Pieces.{holds_any}
 
 -- the inner sink's bytes and then those that are held
-abbrev pub held_behind : SinkState → List ℕ → SinkState
-held_behind inner held = record { gained = append_known inner.gained held; faults = inner.faults; lacks = inner.lacks; unflushed = holds_any held || inner.unflushed; loan = inner.loan }
+abbrev pub held_after : SinkState → List ℕ → SinkState
+held_after inner held = record { gained = append_known inner.gained held; faults = inner.faults; lacks = inner.lacks; unflushed = holds_any held || inner.unflushed; loan = inner.loan }
 
 -- the bytes of a piece follow the first bytes of a buffer
 abbrev pub StoresPiece : ℕ → List ℕ → (old new : List ℕ) → Type 0

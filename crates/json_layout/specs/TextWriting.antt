@@ -25,5 +25,5 @@ pub record WritesText (old new : SinkState) (text : List ℕ) (result : Result (
   pub calm : OnOk result (new.faults ≡ old.faults)
   pub prefix : OnErr result (Begins new.gained (append_known old.gained text))
   pub cause : IfErr result (λ e. StopCause old.faults new.faults e.code e.place)
-  pub told : old.faults < new.faults → IsErrOf result writing_failed
+  pub reported : old.faults < new.faults → IsErrOf result writing_failed
   pub same_loan : new.loan ≡ old.loan

@@ -6,14 +6,12 @@ ghost use Rattle.json_io.specs.Outside.{SinkState};
 ghost use Rattle.json_io.specs.Transfer.{Puts};
 ghost use Rattle.json_layout.specs.Adding.{Adds, Sends};
 
-use json_io::{Error, ErrorCode, Place, Result, Sink, SinkError};
-
-pub(crate) type Added = std::result::Result<(), SinkError>;
+use json_io::{Error, ErrorCode, Place, Result, Sink, SinkError, SinkResult};
 
 // Sends the bytes from `sent` on to the sink, and says which it has.
 #[cold]
 #[inline(never)]
-pub(crate) fn send<W: Sink>(sink: &mut W, bytes: &[u8], sent: &mut usize) -> Added
+pub(crate) fn send<W: Sink>(sink: &mut W, bytes: &[u8], sent: &mut usize) -> SinkResult
     requires { sent.old ≤ length bytes.now }
     ensures { Sends (W.state sink.old) (W.state sink.new) bytes.now sent.old sent.new result }
 {
@@ -29,7 +27,7 @@ pub(crate) fn send<W: Sink>(sink: &mut W, bytes: &[u8], sent: &mut usize) -> Add
 /// Writes the whole piece to the sink. Fails with the error of the sink, which then has a prefix of
 /// the piece. An empty piece makes no call.
 #[inline(always)]
-pub fn add<W: Sink>(sink: &mut W, piece: &[u8]) -> Added
+pub fn add<W: Sink>(sink: &mut W, piece: &[u8]) -> SinkResult
     ensures { Adds (W.state sink.old) (W.state sink.new) piece.now result }
 {
     if piece.is_empty() {
@@ -45,7 +43,7 @@ pub fn add<W: Sink>(sink: &mut W, piece: &[u8]) -> Added
 // The piece from a place on.
 #[cold]
 #[inline(never)]
-fn add_rest<W: Sink>(sink: &mut W, piece: &[u8], from: usize) -> Added
+fn add_rest<W: Sink>(sink: &mut W, piece: &[u8], from: usize) -> SinkResult
     requires { from ≤ length piece.now }
     ensures { Adds (W.state sink.old) (W.state sink.new) (drop from piece.now) result }
 {
@@ -56,7 +54,7 @@ fn add_rest<W: Sink>(sink: &mut W, piece: &[u8], from: usize) -> Added
 // Why a call of the sink failed, to a caller. It is built in place: a result of a call would be
 // cleared at each token.
 #[inline(always)]
-pub(crate) fn refusal(error: SinkError) -> Error
+pub(crate) fn error_of_sink(error: SinkError) -> Error
     ensures failed { error ≡ SinkError.Failed → result ≡ writing_failed }
     ensures no_memory { error ≡ SinkError.NoMemory → result ≡ no_memory }
 {
@@ -75,12 +73,12 @@ pub(crate) fn refusal(error: SinkError) -> Error
 /// Returns what a write came to as a `Result` of the library: its error is `Io` at `Writing` where
 /// a call of the sink failed, and `NoMemory` where memory ran out.
 #[inline(always)]
-pub fn into_result(added: Added) -> Result<()>
+pub fn into_result(added: SinkResult) -> Result<()>
     ensures { (old new : SinkState) (piece : List ℕ) → Adds old new piece added
         → Puts old new piece result }
 {
     match added {
         Ok(()) => Ok(()),
-        Err(error) => Err(refusal(error)),
+        Err(error) => Err(error_of_sink(error)),
     }
 }

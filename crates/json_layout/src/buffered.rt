@@ -7,14 +7,14 @@ ghost use Rattle.std.specs.Prelude.{◌∷◌, [], IsTrue, Ok, Err, false};
 ghost use Rattle.json_grammar.specs.Given.{piece};
 ghost use Rattle.json_model.specs.Print.{quoted, shown_bytes};
 ghost use Rattle.json_layout.specs.Adding.{Adds};
-ghost use Rattle.json_layout.specs.Buffered.{held_behind, StoresPiece};
+ghost use Rattle.json_layout.specs.Buffered.{held_after, StoresPiece};
 ghost use Rattle.json_layout.specs.Pieces.{comma};
 
-use crate::adding::{Added, send};
+use crate::adding::send;
 use crate::blocks::{BLOCK_ROOM, store_blocks, store_last};
 use crate::placing::{ITEM, place_byte, place_item, place_key, place_lead};
 use crate::shown::BATCH;
-use json_io::{Result, Sink, SinkError};
+use json_io::{Result, Sink, SinkError, SinkResult};
 use std::alloc::Global;
 use std::simd::prelude::*;
 
@@ -23,27 +23,27 @@ const CAPACITY: usize = 8192;
 /// The memory of a [`BufferedWriter`], 8,192 bytes.
 ///
 /// ```
-/// use json_layout::{Buffer, BufferedWriter};
+/// use json_layout::{WriteBuffer, BufferedWriter};
 /// use json_io::{VecSink, flush_all, put_all};
-/// let buffer = Buffer::new(alloc)?;
+/// let buffer = WriteBuffer::new(alloc)?;
 /// let mut writer = BufferedWriter::with_buffer(buffer, VecSink::new(alloc));
 /// put_all(&mut writer, b"null")?;
 /// flush_all(&mut writer)?;
 /// assert_eq!(rt; writer.into_inner().as_slice(), b"null".as_slice());
 /// ```
 #[derive(Drop)]
-pub struct Buffer {
+pub struct WriteBuffer {
     bytes: Vec<u8>,
     ghost whole: { length bytes.items ≡ 8192 },
 }
 
-impl Buffer {
+impl WriteBuffer {
     /// Allocates its bytes at once. Fails with `NoMemory` if memory runs out.
-    pub fn new(alloc: Global) -> Result<Buffer>
+    pub fn new(alloc: Global) -> Result<WriteBuffer>
         ensures only { OnlyNoMemory result }
     {
         let bytes = vec![in alloc; 0; CAPACITY]?;
-        Ok(Buffer { bytes })
+        Ok(WriteBuffer { bytes })
     }
 }
 
@@ -122,12 +122,12 @@ impl<W: Sink> BufferedWriter<W> {
         ensures starts { IfOk result (λ b. ⟦<BufferedWriter<W> as Sink>⟧.state b ≡ W.state inner) }
         ensures only { OnlyNoMemory result }
     {
-        let buffer = Buffer::new(alloc)?;
+        let buffer = WriteBuffer::new(alloc)?;
         Ok(BufferedWriter::with_buffer(buffer, inner))
     }
 
     /// Creates a sink over the inner one in a buffer that was allocated before.
-    pub fn with_buffer(buffer: Buffer, inner: W) -> BufferedWriter<W>
+    pub fn with_buffer(buffer: WriteBuffer, inner: W) -> BufferedWriter<W>
         ensures starts { ⟦<BufferedWriter<W> as Sink>⟧.state result ≡ W.state inner }
     {
         BufferedWriter {
@@ -141,7 +141,7 @@ impl<W: Sink> BufferedWriter<W> {
     /// Returns the inner sink. Bytes that are held are dropped.
     pub fn into_inner(self) -> W
         ensures { (held : List ℕ)
-            × (⟦<BufferedWriter<W> as Sink>⟧.state self ≡ held_behind (W.state result) held) }
+            × (⟦<BufferedWriter<W> as Sink>⟧.state self ≡ held_after (W.state result) held) }
     {
         self.inner
     }
@@ -192,7 +192,7 @@ impl<W: Sink> BufferedWriter<W> {
     // Sends what is held.
     #[cold]
     #[inline(never)]
-    fn send_held(&mut self) -> Added
+    fn send_held(&mut self) -> SinkResult
         ensures adds { Adds (⟦<BufferedWriter<W> as Sink>⟧.state self.old)
             (⟦<BufferedWriter<W> as Sink>⟧.state self.new) [] result }
         ensures empty { OnOk result (self.new.end ≡ 0) }
@@ -208,7 +208,7 @@ impl<W: Sink> BufferedWriter<W> {
 
     // Makes room for a block.
     #[inline(always)]
-    fn make_room(&mut self) -> Added
+    fn make_room(&mut self) -> SinkResult
         ensures adds { Adds (⟦<BufferedWriter<W> as Sink>⟧.state self.old)
             (⟦<BufferedWriter<W> as Sink>⟧.state self.new) [] result }
         ensures room { OnOk result (self.new.end + 112 ≤ 8192) }
@@ -263,7 +263,7 @@ impl<W: Sink> BufferedWriter<W> {
 
     // Puts a quote, and a comma before it unless it is the first.
     #[inline(always)]
-    fn put_lead(&mut self, first: bool) -> Added
+    fn put_lead(&mut self, first: bool) -> SinkResult
         ensures { Adds (⟦<BufferedWriter<W> as Sink>⟧.state self.old)
             (⟦<BufferedWriter<W> as Sink>⟧.state self.new) (comma first ++ 34 ∷ []) result }
     {
@@ -316,7 +316,7 @@ impl<W: Sink> BufferedWriter<W> {
 
     // Puts the last few bytes of a string, and a quote after them.
     #[inline(always)]
-    fn put_last(&mut self, text: &[u8]) -> Added
+    fn put_last(&mut self, text: &[u8]) -> SinkResult
         requires { length text.now ≤ 16 }
         ensures { Adds (⟦<BufferedWriter<W> as Sink>⟧.state self.old)
             (⟦<BufferedWriter<W> as Sink>⟧.state self.new)
@@ -332,7 +332,7 @@ impl<W: Sink> BufferedWriter<W> {
 
     // Puts a string between quotes, with its escapes, and a comma before it unless it is the first.
     #[inline(never)]
-    pub(crate) fn put_quoted(&mut self, first: bool, text: &[u8]) -> Added
+    pub(crate) fn put_quoted(&mut self, first: bool, text: &[u8]) -> SinkResult
         ensures { Adds (⟦<BufferedWriter<W> as Sink>⟧.state self.old)
             (⟦<BufferedWriter<W> as Sink>⟧.state self.new) (comma first ++ quoted text.now) result }
     {
@@ -370,7 +370,7 @@ impl<W: Sink> BufferedWriter<W> {
 }
 
 impl<W: Sink> Sink for BufferedWriter<W> {
-    ghost state = { λ b. held_behind (W.state b.inner) (drop b.sent (take b.end b.buffer.items)) };
+    ghost state = { λ b. held_after (W.state b.inner) (drop b.sent (take b.end b.buffer.items)) };
 
     #[inline(always)]
     fn write(&mut self, piece: &[u8]) -> std::result::Result<usize, SinkError> {

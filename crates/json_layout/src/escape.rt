@@ -7,11 +7,11 @@ ghost use Rattle.json_layout.specs.Adding.{Adds};
 ghost use Rattle.json_layout.specs.Pieces.{string_text};
 ghost use Rattle.json_scan.specs.Runs.{plain};
 
-use crate::adding::{Added, add};
+use crate::adding::add;
 use crate::plain::is_plain_short;
 use crate::shown::{BATCH, add_batch};
 use itoa::{Buffer, Integer};
-use json_io::Sink;
+use json_io::{Sink, SinkResult};
 use json_scan::plain_run;
 
 // How many bytes go by tables after a long run.
@@ -44,7 +44,7 @@ fn batch_end(value: &[u8], from: usize, run: usize) -> usize
 }
 
 // The bytes of a string, escaped where they have to be.
-fn add_escaped<W: Sink>(writer: &mut W, value: &[u8]) -> Added
+fn add_escaped<W: Sink>(writer: &mut W, value: &[u8]) -> SinkResult
     ensures { Adds (W.state writer.old) (W.state writer.new) (shown_bytes value.now) result }
 {
     let mut at = 0;
@@ -64,7 +64,7 @@ fn add_escaped<W: Sink>(writer: &mut W, value: &[u8]) -> Added
 }
 
 #[inline(never)]
-fn add_quoted_escaped<W: Sink>(writer: &mut W, value: &[u8]) -> Added
+fn add_quoted_escaped<W: Sink>(writer: &mut W, value: &[u8]) -> SinkResult
     ensures { Adds (W.state writer.old) (W.state writer.new) (quoted value.now) result }
 {
     add(writer, b"\"")?;
@@ -74,7 +74,7 @@ fn add_quoted_escaped<W: Sink>(writer: &mut W, value: &[u8]) -> Added
 
 // A string of which no byte has to be escaped.
 #[inline(always)]
-fn add_quoted_plain<W: Sink>(writer: &mut W, value: &[u8]) -> Added
+fn add_quoted_plain<W: Sink>(writer: &mut W, value: &[u8]) -> SinkResult
     requires { plain value.now }
     ensures { Adds (W.state writer.old) (W.state writer.new) (quoted value.now) result }
 {
@@ -84,7 +84,7 @@ fn add_quoted_plain<W: Sink>(writer: &mut W, value: &[u8]) -> Added
 }
 
 #[inline(never)]
-fn add_quoted_long<W: Sink>(writer: &mut W, value: &[u8]) -> Added
+fn add_quoted_long<W: Sink>(writer: &mut W, value: &[u8]) -> SinkResult
     ensures { Adds (W.state writer.old) (W.state writer.new) (quoted value.now) result }
 {
     if plain_run(value, 0) == value.len() {
@@ -96,7 +96,7 @@ fn add_quoted_long<W: Sink>(writer: &mut W, value: &[u8]) -> Added
 
 // A short string of which no byte has to be escaped is tested and put in line.
 #[inline(always)]
-fn add_quoted<W: Sink>(writer: &mut W, value: &[u8]) -> Added
+fn add_quoted<W: Sink>(writer: &mut W, value: &[u8]) -> SinkResult
     ensures { Adds (W.state writer.old) (W.state writer.new) (quoted value.now) result }
 {
     if is_plain_short(value) {
@@ -109,7 +109,7 @@ fn add_quoted<W: Sink>(writer: &mut W, value: &[u8]) -> Added
 /// Writes the characters, escaped where they have to be, and between quotes if `need_quote` is
 /// true. Fails with the error of the sink.
 #[inline(always)]
-pub fn add_string<W: Sink>(writer: &mut W, value: &str, need_quote: bool) -> Added
+pub fn add_string<W: Sink>(writer: &mut W, value: &str, need_quote: bool) -> SinkResult
     ensures { Adds (W.state writer.old) (W.state writer.new)
         (string_text need_quote value.now) result }
 {
@@ -123,7 +123,7 @@ pub fn add_string<W: Sink>(writer: &mut W, value: &str, need_quote: bool) -> Add
 // Not in line: what a serializer does at each token has to stay small enough to be in line itself.
 /// Writes an integer, as its decimal text. Fails with the error of the sink.
 #[inline(never)]
-pub fn add_number<N: Integer, W: Sink>(writer: &mut W, number: N) -> Added
+pub fn add_number<N: Integer, W: Sink>(writer: &mut W, number: N) -> SinkResult
     ensures { Adds (W.state writer.old) (W.state writer.new) (N.text number) result }
 {
     let mut buffer = Buffer::new();
@@ -140,7 +140,7 @@ fn digit(value: u64) -> u8
 
 // An integer of one or two digits.
 #[inline(always)]
-fn add_pair<W: Sink>(writer: &mut W, number: u64) -> Added
+fn add_pair<W: Sink>(writer: &mut W, number: u64) -> SinkResult
     requires { number < 100 }
     ensures { Adds (W.state writer.old) (W.state writer.new) (decimal number) result }
 {
@@ -152,7 +152,7 @@ fn add_pair<W: Sink>(writer: &mut W, number: u64) -> Added
 
 // An integer of three or four digits.
 #[inline(always)]
-fn add_quad<W: Sink>(writer: &mut W, number: u64) -> Added
+fn add_quad<W: Sink>(writer: &mut W, number: u64) -> SinkResult
     requires { (100 ≤ number) × (number < 10000) }
     ensures { Adds (W.state writer.old) (W.state writer.new) (decimal number) result }
 {
@@ -176,7 +176,7 @@ fn add_quad<W: Sink>(writer: &mut W, number: u64) -> Added
 /// Writes an integer from zero on, as its decimal text. Fails with the error of the sink.
 // One of a few digits is put in line.
 #[inline(always)]
-pub fn add_unsigned<W: Sink>(writer: &mut W, number: u64) -> Added
+pub fn add_unsigned<W: Sink>(writer: &mut W, number: u64) -> SinkResult
     ensures { Adds (W.state writer.old) (W.state writer.new) (decimal number) result }
 {
     if number < 100 {

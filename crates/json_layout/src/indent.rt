@@ -4,8 +4,8 @@ ghost use Rattle.json_model.specs.Print.{indents, line};
 ghost use Rattle.json_layout.specs.Adding.{Adds};
 ghost use Rattle.json_layout.specs.Pieces.{comma};
 
-use crate::adding::{Added, add};
-use json_io::Sink;
+use crate::adding::add;
+use json_io::{Sink, SinkResult};
 
 // How many spaces a line has that is ready.
 const SPACES: usize = 64;
@@ -37,7 +37,7 @@ fn is_spaces(bytes: &[u8]) -> bool
     bytes.iter().all(|byte| *byte == b' ')
 }
 
-fn ready(bytes: &[u8]) -> usize
+fn spaces_ready(bytes: &[u8]) -> usize
     ensures fits { result * length bytes.now ≤ 64 }
     ensures spaces { indents result bytes.now ≡ indents (result * length bytes.now) (32 ∷ []) }
 {
@@ -57,7 +57,7 @@ impl<'a> Indent<'a> {
     {
         Indent {
             bytes,
-            ready: ready(bytes),
+            ready: spaces_ready(bytes),
         }
     }
 }
@@ -76,7 +76,7 @@ fn piece_of_indents<'a>(indent: Indent<'a>, most: usize) -> (&'a [u8], usize)
     (&LINE[2..2 + count * indent.bytes.len()], count)
 }
 
-fn add_indents<W: Sink>(writer: &mut W, indent: Indent<'_>, level: usize) -> Added
+fn add_indents<W: Sink>(writer: &mut W, indent: Indent<'_>, level: usize) -> SinkResult
     ensures { Adds (W.state writer.old) (W.state writer.new)
         (indents level indent.entry.bytes.now) result }
 {
@@ -93,7 +93,12 @@ fn add_indents<W: Sink>(writer: &mut W, indent: Indent<'_>, level: usize) -> Add
 }
 
 #[inline(never)]
-fn add_long_break<W: Sink>(writer: &mut W, indent: Indent<'_>, level: usize, first: bool) -> Added
+fn add_long_break<W: Sink>(
+    writer: &mut W,
+    indent: Indent<'_>,
+    level: usize,
+    first: bool,
+) -> SinkResult
     ensures { Adds (W.state writer.old) (W.state writer.new)
         (comma first ++ line (Some indent.entry.bytes.now) level) result }
 {
@@ -108,7 +113,7 @@ pub(crate) fn add_break<W: Sink>(
     indent: Indent<'_>,
     level: usize,
     first: bool,
-) -> Added
+) -> SinkResult
     ensures { Adds (W.state writer.old) (W.state writer.new)
         (comma first ++ line (Some indent.entry.bytes.now) level) result }
 {

@@ -5,10 +5,10 @@ ghost use Rattle.json_layout.specs.Adding.{Adds};
 ghost use Rattle.json_layout.specs.IndentBytes.{indent_bytes};
 ghost use Rattle.json_layout.specs.Pieces.{byte_array, byte_elements, closing_line, comma};
 
-use crate::adding::{Added, add};
+use crate::adding::add;
 use crate::escape::add_number;
 use crate::indent::{Indent, add_break};
-use json_io::Sink;
+use json_io::{Sink, SinkResult};
 
 /// Writes what precedes an element or a key: a comma unless it is the first, and then a new line
 /// with `level` indents if there is an indent. Fails with the error of the sink.
@@ -18,7 +18,7 @@ pub fn add_start<W: Sink>(
     indent: Option<Indent<'_>>,
     level: usize,
     first: bool,
-) -> Added
+) -> SinkResult
     ensures { let i = option_map indent_bytes indent.entry in
         Adds (W.state writer.old) (W.state writer.new) (comma first ++ line i level) result }
 {
@@ -34,7 +34,7 @@ fn add_end_line<W: Sink>(
     indent: Option<Indent<'_>>,
     level: usize,
     bracket: u8,
-) -> Added
+) -> SinkResult
     ensures { let i = option_map indent_bytes indent.entry in
         Adds (W.state writer.old) (W.state writer.new) (line i level ++ bracket ∷ []) result }
 {
@@ -51,7 +51,7 @@ pub fn add_end<W: Sink>(
     level: usize,
     flag: bool,
     bracket: u8,
-) -> Added
+) -> SinkResult
     ensures { let i = option_map indent_bytes indent.entry in
         Adds (W.state writer.old) (W.state writer.new)
         (closing_line flag i level ++ bracket ∷ []) result }
@@ -69,7 +69,7 @@ fn add_byte_element<W: Sink>(
     level: usize,
     first: bool,
     byte: u8,
-) -> Added
+) -> SinkResult
     ensures { let i = option_map indent_bytes indent.entry in
         Adds (W.state writer.old) (W.state writer.new)
         (byte_elements i level first (byte ∷ [])) result }
@@ -83,7 +83,7 @@ fn add_byte_elements<W: Sink>(
     indent: Option<Indent<'_>>,
     level: usize,
     bytes: &[u8],
-) -> Added
+) -> SinkResult
     ensures { let i = option_map indent_bytes indent.entry in
         Adds (W.state writer.old) (W.state writer.new)
         (byte_elements i level true bytes.now) result }
@@ -107,7 +107,7 @@ pub fn add_byte_array<W: Sink>(
     level: usize,
     outer: usize,
     bytes: &[u8],
-) -> Added
+) -> SinkResult
     ensures { let i = option_map indent_bytes indent.entry in
         Adds (W.state writer.old) (W.state writer.new)
         (byte_array i level outer bytes.now) result }

@@ -29,7 +29,7 @@ mod shown;
 mod style;
 
 pub use adding::{add, into_result};
-pub use buffered::{Buffer, BufferedWriter};
+pub use buffered::{BufferedWriter, WriteBuffer};
 pub use escape::{add_number, add_string, add_unsigned};
 pub use indent::Indent;
 pub use layout::{add_byte_array, add_end, add_start};

@@ -7,7 +7,7 @@ ghost use Rattle.json_scan.specs.Runs.{plain};
 ghost use Rattle.json_layout.specs.Buffered.{StoresPiece};
 
 use crate::buffered::fill_by;
-use crate::plain::{is_plain, is_plain_by};
+use crate::plain::{is_plain_by, is_shown_plain};
 
 // The most bytes of a short string.
 const SHORT: usize = 32;
@@ -48,7 +48,7 @@ fn place_one(buffer: &mut [u8], at: usize, text: &[u8]) -> bool
     ensures placed { StoresPiece at text.now buffer.old buffer.new }
 {
     place_byte(buffer, at, text[0]);
-    is_plain(text[0])
+    is_shown_plain(text[0])
 }
 
 // Stores a short text, and says whether it is one of which no byte has to be escaped.

@@ -9,14 +9,14 @@ use std::simd::prelude::*;
 const LAST_CONTROL: u8 = 31;
 
 #[inline(always)]
-pub(crate) fn is_plain(byte: u8) -> bool
+pub(crate) fn is_shown_plain(byte: u8) -> bool
     ensures { IsTrue result → IsPlain byte }
 {
     byte > LAST_CONTROL && byte != b'"' && byte != b'\\'
 }
 
 #[inline(always)]
-fn is_none(mask: u64) -> bool
+fn is_zero(mask: u64) -> bool
     ensures { IsTrue result → (mask ≡ 0) }
 {
     mask == 0
@@ -45,7 +45,7 @@ fn is_plain_block<const N: usize>(bytes: &[u8], at: usize) -> bool
     requires room { at + N ≤ length bytes.now }
     ensures { IsTrue result → (k : ℕ) → at ≤ k → k < at + N → IsPlain (get_or bytes.now k 0) }
 {
-    is_none(escaped_lanes::<N>(bytes, at))
+    is_zero(escaped_lanes::<N>(bytes, at))
 }
 
 // Whether no byte has to be escaped, of N bytes up to twice as many, by two blocks that may
@@ -69,7 +69,7 @@ fn is_plain_few(text: &[u8]) -> bool
     ensures { IsTrue result → plain text.now }
 {
     'each: for byte in text {
-        if !is_plain(*byte) {
+        if !is_shown_plain(*byte) {
             return false;
         }
     }

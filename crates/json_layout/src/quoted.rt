@@ -46,7 +46,7 @@ fn write_escaped<W: fmt::Write>(text: &str, f: &mut fmt::Formatter<W>) -> fmt::R
 
 // Returns the backslash and the letter that denote the byte, if two characters do.
 #[tactic(auto, using(crate::proofs::Escapes::control_shown), unfolding(json_model::specs::Print::shown_byte))]
-fn short_escape(byte: u8) -> Option<&'static str>
+fn shown_escape(byte: u8) -> Option<&'static str>
     requires { ¬ (IsPlain byte) }
     ensures { MatchOption result (shown_byte byte ≡ unit_escape byte)
         (λ escape. escape.now ≡ shown_byte byte) }
@@ -67,7 +67,7 @@ fn write_escape<W: fmt::Write>(byte: u8, f: &mut fmt::Formatter<W>) -> fmt::Resu
     requires { ¬ (IsPlain byte) }
     ensures { WritesOnOk W.write_str_gives f.old result (shown_byte byte) f.new }
 {
-    match short_escape(byte) {
+    match shown_escape(byte) {
         Some(escape) => f.write_str(escape),
         None => write!(f, "\\u00{byte:02x}"),
     }

@@ -11,10 +11,10 @@ ghost use Rattle.json_layout.specs.Showing.{RanOut, Shows, lead, closed_by, key_
 ghost use Rattle.json_layout.specs.TextWriting.{WritesText};
 
 use crate::BufferedWriter;
-use crate::adding::{Added, add, refusal};
+use crate::adding::{add, error_of_sink};
 use crate::escape::{add_number, add_unsigned};
 use crate::indent::{Indent, add_break};
-use json_io::{Result, Sink};
+use json_io::{Result, Sink, SinkResult};
 
 /// How the parts of a text are laid out: what precedes elements, keys and closing brackets, and
 /// what follows keys.
@@ -35,7 +35,7 @@ pub trait Layout: Copy {
     ghost indent: { Self → Option (List ℕ) };
 
     /// Writes what precedes an element that is no string.
-    fn lead<W: Sink>(self, out: &mut BufferedWriter<W>, level: usize, first: bool) -> Added
+    fn lead<W: Sink>(self, out: &mut BufferedWriter<W>, level: usize, first: bool) -> SinkResult
         ensures { Adds (⟦<BufferedWriter<W> as Sink>⟧.state out.old)
             (⟦<BufferedWriter<W> as Sink>⟧.state out.new) (lead (indent self) level first) result };
 
@@ -46,7 +46,7 @@ pub trait Layout: Copy {
         level: usize,
         first: bool,
         text: &str,
-    ) -> Added
+    ) -> SinkResult
         ensures { Adds (⟦<BufferedWriter<W> as Sink>⟧.state out.old)
             (⟦<BufferedWriter<W> as Sink>⟧.state out.new)
             (text_shown (indent self) level first text.now) result };
@@ -58,13 +58,13 @@ pub trait Layout: Copy {
         level: usize,
         first: bool,
         key: &str,
-    ) -> Added
+    ) -> SinkResult
         ensures { Adds (⟦<BufferedWriter<W> as Sink>⟧.state out.old)
             (⟦<BufferedWriter<W> as Sink>⟧.state out.new)
             (key_shown (indent self) level first key.now) result };
 
     /// Writes what follows a key.
-    fn colon<W: Sink>(self, out: &mut BufferedWriter<W>) -> Added
+    fn colon<W: Sink>(self, out: &mut BufferedWriter<W>) -> SinkResult
         ensures { Adds (⟦<BufferedWriter<W> as Sink>⟧.state out.old)
             (⟦<BufferedWriter<W> as Sink>⟧.state out.new) (colon_bytes (indent self)) result };
 
@@ -76,7 +76,7 @@ pub trait Layout: Copy {
         level: usize,
         empty: bool,
         bracket: u8,
-    ) -> Added
+    ) -> SinkResult
         ensures { Adds (⟦<BufferedWriter<W> as Sink>⟧.state out.old)
             (⟦<BufferedWriter<W> as Sink>⟧.state out.new)
             (closed_by (indent self) level empty bracket) result };
@@ -84,7 +84,7 @@ pub trait Layout: Copy {
 
 // Writes a key and a colon, and a comma before them unless it is the first.
 #[inline(never)]
-fn add_key<W: Sink>(out: &mut BufferedWriter<W>, first: bool, key: &[u8]) -> Added
+fn add_key<W: Sink>(out: &mut BufferedWriter<W>, first: bool, key: &[u8]) -> SinkResult
     ensures { Adds (⟦<BufferedWriter<W> as Sink>⟧.state out.old)
         (⟦<BufferedWriter<W> as Sink>⟧.state out.new)
         (comma first ++ (quoted key.now ++ 58 ∷ [])) result }
@@ -96,7 +96,7 @@ fn add_key<W: Sink>(out: &mut BufferedWriter<W>, first: bool, key: &[u8]) -> Add
 // Writes a string, and a comma before it unless it is the first. A short one without escapes takes
 // no call.
 #[inline(always)]
-fn add_item<W: Sink>(out: &mut BufferedWriter<W>, first: bool, text: &[u8]) -> Added
+fn add_item<W: Sink>(out: &mut BufferedWriter<W>, first: bool, text: &[u8]) -> SinkResult
     ensures { Adds (⟦<BufferedWriter<W> as Sink>⟧.state out.old)
         (⟦<BufferedWriter<W> as Sink>⟧.state out.new) (comma first ++ quoted text.now) result }
 {
@@ -124,7 +124,7 @@ impl Layout for OneLine {
     ghost indent = { λ _. None };
 
     #[inline(always)]
-    fn lead<W: Sink>(self, out: &mut BufferedWriter<W>, level: usize, first: bool) -> Added {
+    fn lead<W: Sink>(self, out: &mut BufferedWriter<W>, level: usize, first: bool) -> SinkResult {
         let _ = level;
         if first { Ok(()) } else { add(out, b",") }
     }
@@ -136,7 +136,7 @@ impl Layout for OneLine {
         level: usize,
         first: bool,
         text: &str,
-    ) -> Added {
+    ) -> SinkResult {
         let _ = level;
         add_item(out, first, text.as_bytes())
     }
@@ -148,7 +148,7 @@ impl Layout for OneLine {
         level: usize,
         first: bool,
         key: &str,
-    ) -> Added {
+    ) -> SinkResult {
         let _ = level;
         if out.put_key(first, key.as_bytes()) {
             return Ok(());
@@ -157,7 +157,7 @@ impl Layout for OneLine {
     }
 
     #[inline(always)]
-    fn colon<W: Sink>(self, out: &mut BufferedWriter<W>) -> Added {
+    fn colon<W: Sink>(self, out: &mut BufferedWriter<W>) -> SinkResult {
         add(out, b":")
     }
 
@@ -168,7 +168,7 @@ impl Layout for OneLine {
         level: usize,
         empty: bool,
         bracket: u8,
-    ) -> Added {
+    ) -> SinkResult {
         let _ = (level, empty);
         add(out, &[bracket])
     }
@@ -205,7 +205,7 @@ impl Layout for ManyLines<'_> {
     ghost indent = { λ s. Some s.indent.bytes.now };
 
     #[inline(always)]
-    fn lead<W: Sink>(self, out: &mut BufferedWriter<W>, level: usize, first: bool) -> Added {
+    fn lead<W: Sink>(self, out: &mut BufferedWriter<W>, level: usize, first: bool) -> SinkResult {
         add_break(out, self.indent, level, first)
     }
 
@@ -216,7 +216,7 @@ impl Layout for ManyLines<'_> {
         level: usize,
         first: bool,
         text: &str,
-    ) -> Added {
+    ) -> SinkResult {
         add_break(out, self.indent, level, first)?;
         add_item(out, true, text.as_bytes())
     }
@@ -228,14 +228,14 @@ impl Layout for ManyLines<'_> {
         level: usize,
         first: bool,
         key: &str,
-    ) -> Added {
+    ) -> SinkResult {
         add_break(out, self.indent, level, first)?;
         add_item(out, true, key.as_bytes())?;
         add(out, b": ")
     }
 
     #[inline(always)]
-    fn colon<W: Sink>(self, out: &mut BufferedWriter<W>) -> Added {
+    fn colon<W: Sink>(self, out: &mut BufferedWriter<W>) -> SinkResult {
         add(out, b": ")
     }
 
@@ -246,7 +246,7 @@ impl Layout for ManyLines<'_> {
         level: usize,
         empty: bool,
         bracket: u8,
-    ) -> Added {
+    ) -> SinkResult {
         if empty {
             return add(out, &[bracket]);
         }
@@ -257,7 +257,7 @@ impl Layout for ManyLines<'_> {
 
 /// Writes a piece of the text as it is.
 #[inline(always)]
-pub fn show_piece<W: Sink>(out: &mut BufferedWriter<W>, piece: &[u8]) -> Added
+pub fn show_piece<W: Sink>(out: &mut BufferedWriter<W>, piece: &[u8]) -> SinkResult
     ensures { Adds (⟦<BufferedWriter<W> as Sink>⟧.state out.old)
         (⟦<BufferedWriter<W> as Sink>⟧.state out.new) piece.now result }
 {
@@ -266,7 +266,7 @@ pub fn show_piece<W: Sink>(out: &mut BufferedWriter<W>, piece: &[u8]) -> Added
 
 /// Writes a string, between quotes and escaped.
 #[inline(always)]
-pub fn show_text<W: Sink>(out: &mut BufferedWriter<W>, text: &str) -> Added
+pub fn show_text<W: Sink>(out: &mut BufferedWriter<W>, text: &str) -> SinkResult
     ensures { Adds (⟦<BufferedWriter<W> as Sink>⟧.state out.old)
         (⟦<BufferedWriter<W> as Sink>⟧.state out.new) (quoted text.now) result }
 {
@@ -275,7 +275,7 @@ pub fn show_text<W: Sink>(out: &mut BufferedWriter<W>, text: &str) -> Added
 
 /// Writes an integer from zero on.
 #[inline(always)]
-pub fn show_unsigned<W: Sink>(out: &mut BufferedWriter<W>, number: u64) -> Added
+pub fn show_unsigned<W: Sink>(out: &mut BufferedWriter<W>, number: u64) -> SinkResult
     ensures { Adds (⟦<BufferedWriter<W> as Sink>⟧.state out.old)
         (⟦<BufferedWriter<W> as Sink>⟧.state out.new) (decimal number) result }
 {
@@ -284,7 +284,7 @@ pub fn show_unsigned<W: Sink>(out: &mut BufferedWriter<W>, number: u64) -> Added
 
 /// Writes an integer.
 #[inline(always)]
-pub fn show_signed<W: Sink>(out: &mut BufferedWriter<W>, number: i64) -> Added
+pub fn show_signed<W: Sink>(out: &mut BufferedWriter<W>, number: i64) -> SinkResult
     ensures { Adds (⟦<BufferedWriter<W> as Sink>⟧.state out.old)
         (⟦<BufferedWriter<W> as Sink>⟧.state out.new) (signed_decimal number) result }
 {
@@ -293,7 +293,7 @@ pub fn show_signed<W: Sink>(out: &mut BufferedWriter<W>, number: i64) -> Added
 
 /// Returns the error of a write: `Io` at `Writing` where a call of the sink failed, and `NoMemory`
 /// where memory ran out.
-pub fn answered(shown: Added) -> Result<()>
+pub fn answered(shown: SinkResult) -> Result<()>
     ensures text { (level : ℕ) (old new : SinkState) (text : List ℕ)
         → Shows level old new text shown → WritesText old new text result }
     ensures ran_out { (level : ℕ) (old new : SinkState) (text : List ℕ)
@@ -302,6 +302,6 @@ pub fn answered(shown: Added) -> Result<()>
 {
     match shown {
         Ok(()) => Ok(()),
-        Err(error) => Err(refusal(error)),
+        Err(error) => Err(error_of_sink(error)),
     }
 }

@@ -4,8 +4,8 @@ ghost use Rattle.std.specs.Prelude.{◌≡◌, ◌+◌, ◌++◌, ◌≤◌, len
 ghost use Rattle.json_model.specs.Print.{shown_byte, shown_bytes};
 ghost use Rattle.json_layout.specs.Adding.{Adds};
 
-use crate::adding::{Added, add};
-use json_io::Sink;
+use crate::adding::add;
+use json_io::{Sink, SinkResult};
 use std::simd::prelude::*;
 
 // How many bytes are shown at once.
@@ -131,7 +131,7 @@ pub(crate) fn store_batch(room: &mut [u8], end: usize, batch: &[u8]) -> usize
 
 // A few bytes of a string, escaped where they have to be.
 #[inline(never)]
-pub(crate) fn add_batch<W: Sink>(writer: &mut W, batch: &[u8]) -> Added
+pub(crate) fn add_batch<W: Sink>(writer: &mut W, batch: &[u8]) -> SinkResult
     requires { length batch.now ≤ 16 }
     ensures { Adds (W.state writer.old) (W.state writer.new) (shown_bytes batch.now) result }
 {

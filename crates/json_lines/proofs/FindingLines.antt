@@ -3,7 +3,7 @@ use Rattle.std.proofs.Common.{◌≡◌, ℕ, ◌+◌, ◌-◌, ◌<◌, ◌≤�
 use Rattle.std.proofs.Math.Seq.{take-append-add, drop-append-add}
 use Rattle.std.proofs.lemmas.List.{length-append, length-take, length-drop, take-take, drop-drop, append-nil}
 use Rattle.std.proofs.lemmas.Slice.{between_is, between_from_start}
-use Rattle.json_io.specs.Known.{Consumes, told_as}
+use Rattle.json_io.specs.Known.{Consumes, if_known}
 use Rattle.json_io.specs.Outside.{SourceState}
 use Rattle.json_lines.specs.declared.line_reader.LineReader.{LineReader}
 use Rattle.json_lines.specs.declared.line_reader.LineRange.{LineRange}
@@ -73,9 +73,9 @@ pub ReadsBytes-as : (a b c : ReaderState) (s u : SourceState) (p : List ℕ) →
 ReadsBytes-as a b c s u p received limit reads =
     record { consumed = reads.consumed; received_so = received ∙ reads.received_so; given_so = reads.given_so; same_limit = limit ∙ reads.same_limit }
 
-pub told-same : (a b : Option (List ℕ)) (p : List ℕ) → Consumes a b p → told_as b [] ≡ told_as a []
-told-same a None p h = ap (λ o. told_as o []) (sym h)
-told-same a (Some b) p h = ap (λ o. told_as o []) (sym h)
+pub told-same : (a b : Option (List ℕ)) (p : List ℕ) → Consumes a b p → if_known b [] ≡ if_known a []
+told-same a None p h = ap (λ o. if_known o []) (sym h)
+told-same a (Some b) p h = ap (λ o. if_known o []) (sym h)
 
 -- a line that ended in what was held
 pub DropsLine-held : (r : LineReader) (fin : ReaderState) (k : ℕ) (s : SourceState) → fin.received ≡ r.received → fin.limit ≡ r.limit → fin.stopped ≡ None
@@ -123,7 +123,7 @@ FindsLine-more a mid new fin s t u n k place waits more here is items received l
 
 -- the last line, at the end of the source
 FindsLine-ended : (a new fin : LineReader) (s u : SourceState) (place : LineRange)
-    → ReadsUnended (line_reader_state a) (line_reader_state new) s u → u.left ≡ told_as s.left [] → new.end - new.start ≤ new.limit → IsLastRange new.start new.end place
+    → ReadsUnended (line_reader_state a) (line_reader_state new) s u → u.left ≡ if_known s.left [] → new.end - new.start ≤ new.limit → IsLastRange new.start new.end place
     → fin.buffer.items ≡ new.buffer.items → fin.received ≡ new.received → fin.limit ≡ new.limit → fin.stopped ≡ None → fin.start ≡ new.end → fin.end ≡ new.end
     → FindsLine a fin s u place
 FindsLine-ended a new fin s u place w over few is items received limit going start end =
@@ -155,7 +155,7 @@ FindsLine-last a mid new fin s t u place waits more few is items received limit 
     (omega (arith, more.end_so, more.same_start, more.reads.same_limit, few))
     is items received limit going start end
 
-ended-later : (xs ys : List ℕ) (s t u : Option (List ℕ)) (p : List ℕ) → xs ≡ ys → Consumes s t p → (has_newline xs ≡ true) ⊎ (u ≡ told_as t []) → (has_newline ys ≡ true) ⊎ (u ≡ told_as s [])
+ended-later : (xs ys : List ℕ) (s t u : Option (List ℕ)) (p : List ℕ) → xs ≡ ys → Consumes s t p → (has_newline xs ≡ true) ⊎ (u ≡ if_known t []) → (has_newline ys ≡ true) ⊎ (u ≡ if_known s [])
 ended-later xs ys s t u p same consumed (inl h) = inl (ap has_newline (sym same) ∙ h)
 ended-later xs ys s t u p same consumed (inr h) = inr (h ∙ told-same s t p consumed)
 
@@ -219,7 +219,7 @@ FindsLine-skipped a mid new fin s t u n k skips more here long received limit go
     }
 
 -- the source ended before it
-FindsLine-cut-off : (a new : LineReader) (s u : SourceState) → SkipsLine (line_reader_state a) (line_reader_state new) s u → u.left ≡ told_as s.left [] → a.limit < length (held_bytes a) → FindsLine a new s u TooLong
+FindsLine-cut-off : (a new : LineReader) (s u : SourceState) → SkipsLine (line_reader_state a) (line_reader_state new) s u → u.left ≡ if_known s.left [] → a.limit < length (held_bytes a) → FindsLine a new s u TooLong
 FindsLine-cut-off a new s u w over long =
     let p = alone (held_bytes a ++ w.bytes) w.no_newline in
     record {

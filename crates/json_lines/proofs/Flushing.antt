@@ -23,10 +23,10 @@ pub WritesText-flush : (a c : SinkState) (r : Result (Unit {0}) Error) → Flush
 WritesText-flush a c (Ok u) h =
     record {
       ok = subst (λ g. Appends a.gained g []) (sym h.keeps) (Appends-nil a.gained);
-      calm = same_faults a.faults c.faults h.later.faults (λ l. ok_no_error u writing_failed (h.told l));
+      calm = same_faults a.faults c.faults h.later.faults (λ l. ok_no_error u writing_failed (h.reported l));
       prefix = tt;
       cause = tt;
-      told = h.told;
+      reported = h.reported;
       same_loan = h.later.same_loan;
     }
 WritesText-flush a c (Err e) h =
@@ -35,6 +35,6 @@ WritesText-flush a c (Err e) h =
       calm = tt;
       prefix = Begins-part a.gained c.gained [] [] (subst (λ g. Appends a.gained g []) (sym h.keeps) (Appends-nil a.gained));
       cause = flush_cause e.code e.place a c h.cause;
-      told = h.told;
+      reported = h.reported;
       same_loan = h.later.same_loan;
     }

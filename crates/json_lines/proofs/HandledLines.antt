@@ -12,7 +12,7 @@ use Rattle.json_io.specs.Errors.{writing_failed}
 use Rattle.json_io.proofs.Putting.{Puts-nil}
 use Rattle.json_lines.specs.declared.line_reader.Line.{Line}
 use Rattle.json_lines.specs.declared.line_reader.Line.TheVariants.{Whole, TooLong}
-use Rattle.json_lines.specs.declared.run.Tally.{Tally}
+use Rattle.json_lines.specs.declared.run.LineTally.{LineTally}
 use Rattle.json_lines.specs.Lines.{lines}
 use Rattle.json_lines.specs.Reading.{IsLineOf}
 use Rattle.json_command.specs.Reporting.{ReportsUnlessMuted}
@@ -52,7 +52,7 @@ has_within limit has bytes (Whole line) o is h = inr (is.1, subst (λ l. has l o
 has_within limit has bytes TooLong o is h = inl (is, h)
 
 -- one line more is handled
-handles_more : (has : List ℕ → Outcome → Type 0) (done : List (List ℕ)) (x : List ℕ) (o : Outcome) (s t u e f g : SinkState) (old new : Tally) → HandlesLines has done s t e f old → has x o → WritesText t u (outcome_row o) (Ok tt)
+handles_more : (has : List ℕ → Outcome → Type 0) (done : List (List ℕ)) (x : List ℕ) (o : Outcome) (s t u e f g : SinkState) (old new : LineTally) → HandlesLines has done s t e f old → has x o → WritesText t u (outcome_row o) (Ok tt)
     → ReportsUnlessMuted old.muted new.muted f g (error_bytes new.number o) → new.number ≡ 1 + length done → new.bad ≡ (old.bad || is_bad o) → HandlesLines has (done ++ x ∷ []) s u e g new
 handles_more has done x o s t u e f g old new h is row report number bad =
     let os = h.outcomes in
@@ -106,7 +106,7 @@ IfSome-map None P Q f h = tt
 IfSome-map (Some x) P Q f h = f x h
 
 -- the same lines, sinks and tally
-handles_same : (has : List ℕ → Outcome → Type 0) (xs ys : List (List ℕ)) (s t u e f g : SinkState) (old new : Tally) → xs ≡ ys → u ≡ t → g ≡ f → new ≡ old → HandlesLines has xs s t e f old → HandlesLines has ys s u e g new
+handles_same : (has : List ℕ → Outcome → Type 0) (xs ys : List (List ℕ)) (s t u e f g : SinkState) (old new : LineTally) → xs ≡ ys → u ≡ t → g ≡ f → new ≡ old → HandlesLines has xs s t e f old → HandlesLines has ys s u e g new
 handles_same has xs ys s t u e f g old new p q r w h = rw (sym p, q, r, w) h
 
 pub FinishesLines-from : (has : List ℕ → Outcome → Type 0) (a b c : RunState) → HandledLines has a b → FindsNoLine b c → FinishesLines (HasWithin a.reader.limit has) a c
@@ -149,7 +149,7 @@ FailsEarly-reading has a b c e so_far fails =
         reports = h.reports;
       }) stop.parted;
       cause = inl stop.cause;
-      reading_told = stop.told;
+      reading_reported = stop.reported;
       writing_told = λ l. absurd (omega (arith, l, h.rows.calm));
       same_loan = h.rows.same_loan;
     }
@@ -188,8 +188,8 @@ FailsEarly-handling has a b c e so_far fails =
         reports = subst (λ d. ReportsUnlessMuted false d a.errs c.errs (errors_from 1 os)) (sym failed.muted) (subst (λ s. ReportsUnlessMuted false b.tally.muted a.errs s (errors_from 1 os)) (sym failed.silent) so_far.handled.reports);
       }) (ReadsLines-parted a.reader c.reader a.source c.source (so_far.done ++ more.bytes ∷ []) now);
       cause = inr (row-cause e.code e.place a.sink c.sink writes.cause, now.no_fault, now.few);
-      reading_told = λ l. absurd (omega (arith, l, now.no_fault));
-      writing_told = λ l. err_same e writing_failed (Err e) refl (writes.told l);
+      reading_reported = λ l. absurd (omega (arith, l, now.no_fault));
+      writing_told = λ l. err_same e writing_failed (Err e) refl (writes.reported l);
       same_loan = writes.same_loan;
     }
 
@@ -215,7 +215,7 @@ FailsEarly-sending has a b sink e so_far failed =
         reports = h.reports;
       }) (ReadsLines-parted a.reader b.reader a.source b.source so_far.done now);
       cause = inr (row-cause e.code e.place a.sink sink writes.cause, now.no_fault, now.few);
-      reading_told = λ l. absurd (omega (arith, l, now.no_fault));
-      writing_told = λ l. err_same e writing_failed (Err e) refl (writes.told l);
+      reading_reported = λ l. absurd (omega (arith, l, now.no_fault));
+      writing_told = λ l. err_same e writing_failed (Err e) refl (writes.reported l);
       same_loan = writes.same_loan;
     }

@@ -8,19 +8,19 @@ use Rattle.json_io.specs.declared.error.Error.{Error}
 use Rattle.json_io.specs.Errors.{no_memory}
 use Rattle.json_io.proofs.Known.{known-append, known-nil}
 use Rattle.json_io.proofs.Putting.{Puts-nil}
-use Rattle.json_layout.specs.Buffered.{held_behind}
+use Rattle.json_layout.specs.Buffered.{held_after}
 use Rattle.json_print.proofs.TextWriting.{front_gained}
 use Rattle.json_command.specs.Reporting.{ReportsUnlessMuted}
 use Rattle.json_lines.specs.Rows.{Outcome, rows_of}
 use Rattle.json_lines.specs.Running.{StopsEarly}
 use Rattle.json_lines.specs.TopCall.{streams, WritesFewerRows, WritesPartOfTable, WritesPrefixes}
-use Rattle.json_lines.specs.declared.run.Tally.{Tally}
+use Rattle.json_lines.specs.declared.run.LineTally.{LineTally}
 use Rattle.json_lines.proofs.HandledLines.{IfSome-map}
 use Rattle.json_lines.proofs.ReaderSteps.{gives_nothing}
 use Rattle.json_lines.proofs.SinkEnds.{came_back, sink_grew}
 
-module _ (has : List ℕ → Outcome → Type 0) (s u : SourceState) (old now errs errs' : SinkState) (name : GName) (held : List ℕ) (t : Tally) where
-  lent_front : Grows old.gained now.gained → (muted : Bool) (bytes : List ℕ) → StopsEarly has (lent_as old name old.gained) (held_behind (lent_as now name old.gained) held) errs errs' muted bytes → WritesPrefixes has old now errs errs' muted bytes
+module _ (has : List ℕ → Outcome → Type 0) (s u : SourceState) (old now errs errs' : SinkState) (name : GName) (held : List ℕ) (t : LineTally) where
+  lent_front : Grows old.gained now.gained → (muted : Bool) (bytes : List ℕ) → StopsEarly has (lent_as old name old.gained) (held_after (lent_as now name old.gained) held) errs errs' muted bytes → WritesPrefixes has old now errs errs' muted bytes
   lent_front g muted bytes h =
       record {
         done = h.done;
@@ -35,20 +35,20 @@ module _ (has : List ℕ → Outcome → Type 0) (s u : SourceState) (old now er
         reports = h.reports;
       }
 
-  lent_short : Grows old.gained now.gained → (e : Error) → WritesFewerRows has (streams s (lent_as old name old.gained) errs) (streams u (held_behind (lent_as now name old.gained) held) errs') t e → WritesPartOfTable has (streams s old errs) (streams u now errs') t e
+  lent_short : Grows old.gained now.gained → (e : Error) → WritesFewerRows has (streams s (lent_as old name old.gained) errs) (streams u (held_after (lent_as now name old.gained) held) errs') t e → WritesPartOfTable has (streams s old errs) (streams u now errs') t e
   lent_short g e h =
       record {
         bytes = h.bytes;
         gives = h.gives;
-        prefixes = IfSome-map s.left (λ _. StopsEarly has (lent_as old name old.gained) (held_behind (lent_as now name old.gained) held) errs errs' t.muted h.bytes) (λ _. WritesPrefixes has old now errs errs' t.muted h.bytes)
+        prefixes = IfSome-map s.left (λ _. StopsEarly has (lent_as old name old.gained) (held_after (lent_as now name old.gained) held) errs errs' t.muted h.bytes) (λ _. WritesPrefixes has old now errs errs' t.muted h.bytes)
             (λ _ b. lent_front g t.muted h.bytes b) h.stops;
         cause = h.cause;
-        reading_told = h.reading_told;
+        reading_reported = h.reading_reported;
         writing_told = h.writing_told;
       }
 
-  module _ (began sent lent : SinkState) (name' : GName) (r : Result (Unit {0}) Error) (b : began ≡ lent_as old name old.gained) (loan : sent.loan ≡ began.loan) (is : sent ≡ held_behind lent held) (back : ComesBack lent now name') where
-    here : sent ≡ held_behind (lent_as now name old.gained) held
+  module _ (began sent lent : SinkState) (name' : GName) (r : Result (Unit {0}) Error) (b : began ≡ lent_as old name old.gained) (loan : sent.loan ≡ began.loan) (is : sent ≡ held_after lent held) (back : ComesBack lent now name') where
+    here : sent ≡ held_after (lent_as now name old.gained) held
     here = came_back old now sent lent began name name' held b loan is back
 
     pub written_err : IfErr r (λ e. WritesFewerRows has (streams s began errs) (streams u sent errs') t e) → IfErr r (λ e. WritesPartOfTable has (streams s old errs) (streams u now errs') t e)
@@ -58,10 +58,10 @@ module _ (has : List ℕ → Outcome → Type 0) (s u : SourceState) (old now er
         by (Ok v) h = tt
         by (Err e) h =
             lent_short (sink_grew old now sent lent began name name' held b loan is back) e
-            (subst (λ x. WritesFewerRows has (streams s x errs) (streams u (held_behind (lent_as now name old.gained) held) errs') t e) b (subst (λ x. WritesFewerRows has (streams s began errs) (streams u x errs') t e) here h))
+            (subst (λ x. WritesFewerRows has (streams s x errs) (streams u (held_after (lent_as now name old.gained) held) errs') t e) b (subst (λ x. WritesFewerRows has (streams s began errs) (streams u x errs') t e) here h))
 
 -- memory ran out for the buffer
-pub short_none : (has : List ℕ → Outcome → Type 0) (s : SourceState) (sink errs : SinkState) (t : Tally) (e : Error) → e ≡ no_memory → t.muted ≡ false → WritesPartOfTable has (streams s sink errs) (streams s sink errs) t e
+pub short_none : (has : List ℕ → Outcome → Type 0) (s : SourceState) (sink errs : SinkState) (t : LineTally) (e : Error) → e ≡ no_memory → t.muted ≡ false → WritesPartOfTable has (streams s sink errs) (streams s sink errs) t e
 short_none has s sink errs t e is unmuted =
     subst (WritesPartOfTable has (streams s sink errs) (streams s sink errs) t) (sym is)
     (record {
@@ -69,7 +69,7 @@ short_none has s sink errs t e is unmuted =
       gives = gives_nothing s;
       prefixes = some_prefix s.left;
       cause = tt;
-      reading_told = λ l. absurd (omega (arith, l));
+      reading_reported = λ l. absurd (omega (arith, l));
       writing_told = λ l. absurd (omega (arith, l));
     })
   where

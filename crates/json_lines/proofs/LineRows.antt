@@ -46,7 +46,7 @@ blank-known b k false is short space stop = λ w. let l = below b k short (eqb-f
 -- memory ran out, and nothing was written
 WritesText-no-memory : (s : SinkState) (text : List ℕ) (e : Error) → e ≡ no_memory → WritesText s s text (Err e)
 WritesText-no-memory s text e is =
-    rw is (record { ok = tt; calm = tt; prefix = record { back = text; whole = refl }; cause = tt; told = λ l. absurd (omega (arith, l)); same_loan = refl })
+    rw is (record { ok = tt; calm = tt; prefix = record { back = text; whole = refl }; cause = tt; reported = λ l. absurd (omega (arith, l)); same_loan = refl })
 
 -- ---- the outcome
 

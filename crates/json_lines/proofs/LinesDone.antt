@@ -35,15 +35,15 @@ pub lines_of_some : (xs : List ℕ) → 0 < length xs → lines xs ≡ first_lin
 lines_of_some [] h = absurd (omega (arith, h))
 lines_of_some (b ∷ xs) h = line_by_line (b ∷ xs)
 
-some_behind : (xs : List ℕ) (ys : List ℕ) → 0 < length (xs ++ 10 ∷ ys)
-some_behind [] ys = omega arith
-some_behind (x ∷ xs) ys = omega arith
+some_after : (xs : List ℕ) (ys : List ℕ) → 0 < length (xs ++ 10 ∷ ys)
+some_after [] ys = omega arith
+some_after (x ∷ xs) ys = omega arith
 
 -- a line, its end and more
 pub lines_of_ending : (line rest : List ℕ) → has_newline line ≡ false → lines (line ++ 10 ∷ rest) ≡ line ∷ lines rest
 lines_of_ending line rest h =
     let p = unended line (10 ∷ rest) h in
-    lines_of_some (line ++ 10 ∷ rest) (some_behind line rest) ∙ ap (λ l. l ∷ lines (after_line (line ++ 10 ∷ rest))) (p.0 ∙ append-nil line) ∙ ap (λ l. line ∷ lines l) p.1
+    lines_of_some (line ++ 10 ∷ rest) (some_after line rest) ∙ ap (λ l. l ∷ lines (after_line (line ++ 10 ∷ rest))) (p.0 ∙ append-nil line) ∙ ap (λ l. line ∷ lines l) p.1
 
 -- a line without an end
 pub lines_of_last : (line : List ℕ) → 0 < length line → has_newline line ≡ false → lines line ≡ line ∷ []

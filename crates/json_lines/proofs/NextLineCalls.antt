@@ -3,7 +3,7 @@ use Rattle.std.proofs.Common.{◌≡◌, ℕ, ◌-◌, ◌<◌, ◌⊎◌, inl, 
 use Rattle.std.proofs.lemmas.List.{length-append, length-take}
 use Rattle.std.proofs.lemmas.Bool.{true≢false, false≢true}
 use Rattle.std.specs.Option.{option_map}
-use Rattle.json_io.specs.Known.{Consumes, prepend_known, told_as}
+use Rattle.json_io.specs.Known.{Consumes, prepend_known, if_known}
 use Rattle.json_io.specs.Outside.{SourceState}
 use Rattle.json_io.specs.declared.error.Error.{Error}
 use Rattle.json_lines.specs.declared.line_reader.LineReader.{LineReader}
@@ -36,22 +36,22 @@ IsLine-longer limit bytes more (Some (Whole line)) ends is =
 IsLine-longer limit bytes more (Some TooLong) ends is = subst (λ l. limit < length l) (sym (ended bytes more ends).0) is
 
 -- what is said of the bytes that reads holds of all that is left
-told_line : (limit : ℕ) (held bytes : List ℕ) (old new : Option (List ℕ)) (o : Option Line) → Consumes old new bytes → (has_newline (held ++ bytes) ≡ true) ⊎ (new ≡ told_as old []) → IsLine limit (held ++ bytes) o
+reported_line : (limit : ℕ) (held bytes : List ℕ) (old new : Option (List ℕ)) (o : Option Line) → Consumes old new bytes → (has_newline (held ++ bytes) ≡ true) ⊎ (new ≡ if_known old []) → IsLine limit (held ++ bytes) o
     → IfSome (prepend_known held old) (λ all. IsLine limit all o)
-told_line limit held bytes old None o consumed ends is = subst (λ k. IfSome (prepend_known held k) (λ all. IsLine limit all o)) (sym consumed) tt
-told_line limit held bytes old (Some left) o consumed (inl ends) is =
+reported_line limit held bytes old None o consumed ends is = subst (λ k. IfSome (prepend_known held k) (λ all. IsLine limit all o)) (sym consumed) tt
+reported_line limit held bytes old (Some left) o consumed (inl ends) is =
     subst (λ k. IfSome (prepend_known held k) (λ all. IsLine limit all o)) (sym consumed) (subst (λ all. IsLine limit all o) (append_assoc held bytes left) (IsLine-longer limit (held ++ bytes) left o ends is))
-told_line limit held bytes old (Some left) o consumed (inr ends) is =
-    let none : Some left ≡ Some [] = ends ∙ ap (λ k. told_as k []) consumed in
+reported_line limit held bytes old (Some left) o consumed (inr ends) is =
+    let none : Some left ≡ Some [] = ends ∙ ap (λ k. if_known k []) consumed in
     subst (λ k. IfSome (prepend_known held k) (λ all. IsLine limit all o)) (sym (consumed ∙ ap (prepend_known bytes) none)) (subst (λ l. IsLine limit (held ++ l) o) (sym (append-nil bytes)) is)
 
-told_rest : (held held' bytes : List ℕ) (old new : Option (List ℕ)) → Consumes old new bytes → (has_newline (held ++ bytes) ≡ true) ⊎ (new ≡ told_as old []) → held' ≡ after_line (held ++ bytes)
+reported_rest : (held held' bytes : List ℕ) (old new : Option (List ℕ)) → Consumes old new bytes → (has_newline (held ++ bytes) ≡ true) ⊎ (new ≡ if_known old []) → held' ≡ after_line (held ++ bytes)
     → prepend_known held' new ≡ option_map after_line (prepend_known held old)
-told_rest held held' bytes old None consumed ends rest = ap (λ k. option_map after_line (prepend_known held k)) (sym consumed)
-told_rest held held' bytes old (Some left) consumed (inl ends) rest =
+reported_rest held held' bytes old None consumed ends rest = ap (λ k. option_map after_line (prepend_known held k)) (sym consumed)
+reported_rest held held' bytes old (Some left) consumed (inl ends) rest =
     ap Some (ap (λ l. l ++ left) rest ∙ sym (ended (held ++ bytes) left ends).1 ∙ ap after_line (append_assoc held bytes left)) ∙ ap (λ k. option_map after_line (prepend_known held k)) (sym consumed)
-told_rest held held' bytes old (Some left) consumed (inr ends) rest =
-    let none : Some left ≡ Some [] = ends ∙ ap (λ k. told_as k []) consumed in
+reported_rest held held' bytes old (Some left) consumed (inr ends) rest =
+    let none : Some left ≡ Some [] = ends ∙ ap (λ k. if_known k []) consumed in
     let all : old ≡ Some (bytes ++ []) = consumed ∙ ap (prepend_known bytes) none in
     ap (prepend_known held') none ∙ ap Some (append-nil held' ∙ rest ∙ ap (λ l. after_line (held ++ l)) (sym (append-nil bytes))) ∙ ap (λ k. option_map after_line (prepend_known held k)) (sym all)
 
@@ -64,8 +64,8 @@ NextLineCall-ok a fin s u place o finds going shows =
       first = λ _. record {
         bytes = finds.bytes;
         reads = p.reads;
-        line = told_line a.limit (held_bytes a) finds.bytes s.left u.left o p.reads.consumed p.ended is;
-        rest = told_rest (held_bytes a) (held_bytes fin) finds.bytes s.left u.left p.reads.consumed p.ended p.rest;
+        line = reported_line a.limit (held_bytes a) finds.bytes s.left u.left o p.reads.consumed p.ended is;
+        rest = reported_rest (held_bytes a) (held_bytes fin) finds.bytes s.left u.left p.reads.consumed p.ended p.rest;
         line_read = is;
         rest_read = p.rest;
         ended = p.ended;

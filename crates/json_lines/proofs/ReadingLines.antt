@@ -4,7 +4,7 @@ use Rattle.std.proofs.Common.{◌≡◌, ℕ, ◌+◌, ◌-◌, ◌<◌, ◌≤�
 use Rattle.std.proofs.lemmas.List.{length-append}
 use Rattle.std.proofs.lemmas.Bool.{false≢true}
 use Rattle.json_io.specs.Errors.{reading_failed}
-use Rattle.json_io.specs.Known.{Consumes, prepend_known, told_as}
+use Rattle.json_io.specs.Known.{Consumes, prepend_known, if_known}
 use Rattle.json_io.specs.Outside.{SourceState}
 use Rattle.json_io.proofs.Known.{Consumes-nil}
 use Rattle.json_io.specs.declared.error.Error.{Error}
@@ -48,7 +48,7 @@ pub record ReadsAllLines (old new : ReaderState) (source source' : SourceState) 
   pub bytes : List ℕ
   pub reads : ReadsBytes old new source source' bytes
   pub all : IfSome source.left (λ b. b ≡ bytes)
-  pub drained : source'.left ≡ told_as source.left []
+  pub drained : source'.left ≡ if_known source.left []
   pub no_fault : source'.faults ≡ source.faults
   pub few : new.received ≤ max_bytes
   pub done_all : IfSome source.left (λ b. done ≡ lines b)
@@ -60,7 +60,7 @@ pub record ReadingLinesFails (old new : ReaderState) (source source' : SourceSta
   pub later : List (List ℕ)
   pub parted : IfSome source.left (λ _. lines bytes ≡ done ++ later)
   pub cause : NextLineCause new source source' error.code error.place
-  pub told : source.faults < source'.faults → error ≡ reading_failed
+  pub reported : source.faults < source'.faults → error ≡ reading_failed
 
 -- ---- the start
 
@@ -88,12 +88,12 @@ some_same : (x y : List ℕ) → Some x ≡ Some y → x ≡ y
 some_same x y h = cc
 
 -- where no line ends, the source did
-source_over : (xs bytes left : List ℕ) (b : Option (List ℕ)) → Consumes b (Some left) bytes → (has_newline xs ≡ true) ⊎ (Some left ≡ told_as b []) → has_newline xs ≡ false → left ≡ []
+source_over : (xs bytes left : List ℕ) (b : Option (List ℕ)) → Consumes b (Some left) bytes → (has_newline xs ≡ true) ⊎ (Some left ≡ if_known b []) → has_newline xs ≡ false → left ≡ []
 source_over xs bytes left b consumed (inl ends) none = absurd (false≢true (sym none ∙ ends))
-source_over xs bytes left b consumed (inr ends) none = some_same left [] (ends ∙ ap (λ k. told_as k []) consumed)
+source_over xs bytes left b consumed (inr ends) none = some_same left [] (ends ∙ ap (λ k. if_known k []) consumed)
 
 through_more : (t : Bool) (b c : Option (List ℕ)) (passed held held' bytes : List ℕ) (done : List (List ℕ)) → has_newline (held ++ bytes) ≡ t → 0 < length (held ++ bytes) → Consumes b c bytes
-    → (has_newline (held ++ bytes) ≡ true) ⊎ (c ≡ told_as b []) → held' ≡ after_line (held ++ bytes)
+    → (has_newline (held ++ bytes) ≡ true) ⊎ (c ≡ if_known b []) → held' ≡ after_line (held ++ bytes)
     → IfSome b (λ left. LinesAreDone passed done (held ++ left)) → IfSome c (λ left. LinesAreDone (passed ++ done_part (held ++ bytes) t) (done ++ first_line (held ++ bytes) ∷ []) (held' ++ left))
 through_more t b None passed held held' bytes done is some consumed ends rest through = tt
 through_more t b (Some left) passed held held' bytes done is some consumed ends rest through =
@@ -136,7 +136,7 @@ nothing-first : (xs ys : List ℕ) → xs ++ ys ≡ [] → xs ≡ []
 nothing-first [] ys h = refl
 nothing-first (x ∷ xs) ys h = absurd (omega (arith, ap length h))
 
-done_all : (al bl cl : Option (List ℕ)) (bytes bytes' passed held : List ℕ) (done : List (List ℕ)) → Consumes al bl bytes → Consumes bl cl bytes' → cl ≡ told_as bl [] → held ++ bytes' ≡ []
+done_all : (al bl cl : Option (List ℕ)) (bytes bytes' passed held : List ℕ) (done : List (List ℕ)) → Consumes al bl bytes → Consumes bl cl bytes' → cl ≡ if_known bl [] → held ++ bytes' ≡ []
     → bytes ≡ passed ++ held → IfSome bl (λ left. LinesAreDone passed done (held ++ left)) → IfSome al (λ x. done ≡ lines x)
 done_all al None cl bytes bytes' passed held done consumed more ends none whole through = subst (λ k. IfSome k (λ x. done ≡ lines x)) (sym consumed) tt
 done_all al (Some left) cl bytes bytes' passed held done consumed more ends none whole through =
@@ -147,18 +147,18 @@ done_all al (Some left) cl bytes bytes' passed held done consumed more ends none
     let done_is : done ≡ lines passed = sym (append-nil done) ∙ sym (through [] [] (ap (λ l. l ++ left) no_held ∙ no_left)) ∙ ap lines (append-nil passed) in
     subst (λ k. IfSome k (λ x. done ≡ lines x)) (sym consumed) (done_is ∙ ap lines (sym all))
 
-ended_none : (xs : List ℕ) (b c : Option (List ℕ)) → xs ≡ [] → (has_newline xs ≡ true) ⊎ (c ≡ told_as b []) → c ≡ told_as b []
+ended_none : (xs : List ℕ) (b c : Option (List ℕ)) → xs ≡ [] → (has_newline xs ≡ true) ⊎ (c ≡ if_known b []) → c ≡ if_known b []
 ended_none xs b c none (inl h) = absurd (false≢true (ap has_newline (sym none) ∙ h))
 ended_none xs b c none (inr h) = h
 
-all_read : (al cl : Option (List ℕ)) (bytes : List ℕ) → Consumes al cl bytes → cl ≡ told_as al [] → IfSome al (λ b. b ≡ bytes)
+all_read : (al cl : Option (List ℕ)) (bytes : List ℕ) → Consumes al cl bytes → cl ≡ if_known al [] → IfSome al (λ b. b ≡ bytes)
 all_read None cl bytes consumed drained = tt
 all_read (Some x) cl bytes consumed drained = some_same x bytes (consumed ∙ ap (prepend_known bytes) drained ∙ ap Some (append-nil bytes))
 
 pub ReadsLines-end : (a b c : ReaderState) (s t u : SourceState) (done : List (List ℕ)) → ReadsLines a b s t done → NextLineCall b c t u (Ok None) → ReadsAllLines a c s u done
 ReadsLines-end a b c s t u done before call =
     let next = call.first before.going in
-    let ends : u.left ≡ told_as t.left [] = ended_none (b.held ++ next.bytes) t.left u.left next.line_read next.ended in
+    let ends : u.left ≡ if_known t.left [] = ended_none (b.held ++ next.bytes) t.left u.left next.line_read next.ended in
     let drained = ends ∙ told-same s.left t.left before.bytes before.reads.consumed in
     let reads = ReadsBytes-trans a b c s t u before.bytes next.bytes before.reads next.reads in
     record {
@@ -211,5 +211,5 @@ ReadsLines-fail a b c s t u done e before call =
       later = lines (b.held ++ next.bytes);
       parted = done_some s.left t.left u.left before.bytes next.bytes before.passed b.held done before.reads.consumed next.reads.consumed before.whole before.through;
       cause = cause;
-      told = λ l. reading-told e.code e.place c s u cause l;
+      reported = λ l. reading-told e.code e.place c s u cause l;
     }

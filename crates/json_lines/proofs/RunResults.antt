@@ -20,7 +20,7 @@ use Rattle.json_lines.specs.Rows.{Outcome, HasWithin, rows_of, errors_from, some
 use Rattle.json_lines.specs.RunResults.{OfOutcomes, Completes, AppendsRowsPrefix, TellsErrorsPrefix, FailsRun, RunResult}
 use Rattle.json_lines.specs.TopCall.{Streams, GainsRows, WritesAllRows, WritesPartOfTable, WritesPrefixes, RunErrorCause, run_status}
 use Rattle.json_lines.specs.Words.{AsksForColumns, IsLinesRequest}
-use Rattle.json_lines.specs.declared.run.Tally.{Tally}
+use Rattle.json_lines.specs.declared.run.LineTally.{LineTally}
 use Rattle.json_lines.proofs.HandledLines.{IfSome-map}
 use Rattle.json_lines.proofs.OneOutcome.{some_outcomes, all_within}
 use Rattle.json_lines.proofs.ReaderSteps.{gives_nothing}
@@ -33,9 +33,9 @@ within command = HasWithin 1048576 (HasOutcome command)
 -- ---- the run is complete
 
 -- of the outcomes of all lines
-of_lines : (words : List (List ℕ)) (command : LinesCommand) (known : Option (List ℕ)) (a c errs errs' : SinkState) (t : Tally) (Q : List Outcome → Type 0) → AsksForColumns words command
-    → ((b : List ℕ) → (h : GainsRows (within command) (lines b) a c errs errs' t) → Q h.outcomes) → IfSome known (λ b. GainsRows (within command) (lines b) a c errs errs' t) → OfOutcomes words known Q
-of_lines words command known a c errs errs' t Q asked f h =
+of_lines : (arguments : List (List ℕ)) (command : LinesCommand) (known : Option (List ℕ)) (a c errs errs' : SinkState) (t : LineTally) (Q : List Outcome → Type 0) → AsksForColumns arguments command
+    → ((b : List ℕ) → (h : GainsRows (within command) (lines b) a c errs errs' t) → Q h.outcomes) → IfSome known (λ b. GainsRows (within command) (lines b) a c errs errs' t) → OfOutcomes arguments known Q
+of_lines arguments command known a c errs errs' t Q asked f h =
     record {
       command = command;
       asked = asked;
@@ -47,14 +47,14 @@ status_bool : (t : Bool) (n : ℕ) → n ≡ (if t then 1 else 0) → (n ≡ 0) 
 status_bool true n h = inr h
 status_bool false n h = inl h
 
-pub completes-from : (words : List (List ℕ)) (command : LinesCommand) (a c : Streams) (t : Tally) (n : ℕ) → AsksForColumns words command → WritesAllRows (within command) a c t → n ≡ (if t.bad then 1 else 0) → Completes words a c n
-completes-from words command a c t n asked all is =
+pub completes-from : (arguments : List (List ℕ)) (command : LinesCommand) (a c : Streams) (t : LineTally) (n : ℕ) → AsksForColumns arguments command → WritesAllRows (within command) a c t → n ≡ (if t.bad then 1 else 0) → Completes arguments a c n
+completes-from arguments command a c t n asked all is =
     record {
       known = status_bool t.bad n is;
       all = record { bytes = all.bytes; gives = all.gives; few = all.few; drained = all.drained; read = all.no_fault; written = all.no_sink_fault; flushed = all.flushed };
-      rows = of_lines words command a.source.left a.sink c.sink a.errs c.errs t (λ os. Appends a.sink.gained c.sink.gained (rows_of os)) asked (λ b h. h.rows) all.handled;
-      errors = of_lines words command a.source.left a.sink c.sink a.errs c.errs t (λ os. Reports (errors_from 1 os) a.errs c.errs) asked (λ b h. Reports-from t.muted a.errs c.errs (errors_from 1 h.outcomes) h.reports) all.handled;
-      bad = of_lines words command a.source.left a.sink c.sink a.errs c.errs t (λ os. n ≡ (if some_bad os then 1 else 0)) asked (λ b h. is ∙ ap (λ t. if t then 1 else 0) h.bad) all.handled;
+      rows = of_lines arguments command a.source.left a.sink c.sink a.errs c.errs t (λ os. Appends a.sink.gained c.sink.gained (rows_of os)) asked (λ b h. h.rows) all.handled;
+      errors = of_lines arguments command a.source.left a.sink c.sink a.errs c.errs t (λ os. Reports (errors_from 1 os) a.errs c.errs) asked (λ b h. Reports-from t.muted a.errs c.errs (errors_from 1 h.outcomes) h.reports) all.handled;
+      bad = of_lines arguments command a.source.left a.sink c.sink a.errs c.errs t (λ os. n ≡ (if some_bad os then 1 else 0)) asked (λ b h. is ∙ ap (λ t. if t then 1 else 0) h.bad) all.handled;
     }
 
 -- ---- the run failed
@@ -89,7 +89,7 @@ module _ (command : LinesCommand) (a c : Streams) (errs : SinkState) (muted : Bo
         first = h.outcomes;
         later = h.next ++ later_outcomes;
         parted = refl;
-        told = Reports-last muted a.errs c.errs errs (errors_from 1 h.outcomes) (text_of e) h.reports reported silent;
+        reported = Reports-last muted a.errs c.errs errs (errors_from 1 h.outcomes) (text_of e) h.reports reported silent;
       }
 
 cause_errs : (code : ErrorCode) (place : Place) (bytes : List ℕ) (a c : Streams) (errs : SinkState) → RunErrorCause bytes a c code place → RunErrorCause bytes a (record { source = c.source; sink = c.sink; errs = errs }) code place
@@ -99,9 +99,9 @@ cause_errs Io Writing bytes a c errs h = h
 cause_errs TooLarge nowhere bytes a c errs h = h
 cause_errs code place bytes a c errs h = absurd h
 
-pub fails-from : (words : List (List ℕ)) (command : LinesCommand) (a c : Streams) (errs : SinkState) (t : Tally) (e : Error) (n : ℕ) → AsksForColumns words command → WritesPartOfTable (within command) a c t e → (t.muted ≡ false → Reports (text_of e) c.errs errs) → (t.muted ≡ true → errs ≡ c.errs)
-    → n ≡ run_status e.code e.place → FailsRun words a (record { source = c.source; sink = c.sink; errs = errs }) n
-fails-from words command a c errs t e n asked part reported silent is =
+pub fails-from : (arguments : List (List ℕ)) (command : LinesCommand) (a c : Streams) (errs : SinkState) (t : LineTally) (e : Error) (n : ℕ) → AsksForColumns arguments command → WritesPartOfTable (within command) a c t e → (t.muted ≡ false → Reports (text_of e) c.errs errs) → (t.muted ≡ true → errs ≡ c.errs)
+    → n ≡ run_status e.code e.place → FailsRun arguments a (record { source = c.source; sink = c.sink; errs = errs }) n
+fails-from arguments command a c errs t e n asked part reported silent is =
     record {
       error = e;
       status_is = is;
@@ -116,31 +116,31 @@ fails-from words command a c errs t e n asked part reported silent is =
         errors = IfSome-map a.source.left (λ _. WritesPrefixes (within command) a.sink c.sink a.errs c.errs t.muted part.bytes) (λ _. TellsErrorsPrefix command part.bytes e a (record { source = c.source; sink = c.sink; errs = errs }))
             (λ _ h. errors_prefix command a c errs t.muted part.bytes h e reported silent) part.prefixes;
       });
-      read_told = λ l. is ∙ ap (λ e. run_status e.code e.place) (part.reading_told l);
-      write_told = λ l. is ∙ ap (λ e. run_status e.code e.place) (part.writing_told l);
+      read_error = λ l. is ∙ ap (λ e. run_status e.code e.place) (part.reading_reported l);
+      write_error = λ l. is ∙ ap (λ e. run_status e.code e.place) (part.writing_told l);
     }
 
 -- ---- the words alone
 
-pub memory_ran_out : (words : List (List ℕ)) (s : SourceState) (sink errs errs' : SinkState) (e : Error) (n : ℕ) → e ≡ no_memory → Reports (text_of e) errs errs' → n ≡ run_status e.code e.place
-    → FailsRun words (record { source = s; sink = sink; errs = errs }) (record { source = s; sink = sink; errs = errs' }) n
-memory_ran_out words s sink errs errs' e n is told status =
+pub memory_ran_out : (arguments : List (List ℕ)) (s : SourceState) (sink errs errs' : SinkState) (e : Error) (n : ℕ) → e ≡ no_memory → Reports (text_of e) errs errs' → n ≡ run_status e.code e.place
+    → FailsRun arguments (record { source = s; sink = sink; errs = errs }) (record { source = s; sink = sink; errs = errs' }) n
+memory_ran_out arguments s sink errs errs' e n is told status =
     record {
       error = e;
       status_is = status;
       bytes = [];
       gives = gives_nothing s;
       cause = subst (λ (x : Error). RunErrorCause [] (record { source = s; sink = sink; errs = errs }) (record { source = s; sink = sink; errs = errs' }) x.code x.place) (sym is) tt;
-      did = inl (record { lacks = is; unread = refl; unwritten = refl; told = told });
-      read_told = λ l. absurd (omega (arith, l));
-      write_told = λ l. absurd (omega (arith, l));
+      did = inl (record { lacks = is; unread = refl; unwritten = refl; reported = told });
+      read_error = λ l. absurd (omega (arith, l));
+      write_error = λ l. absurd (omega (arith, l));
     }
 
-pub unasked-from : (words : List (List ℕ)) (s : SourceState) (sink errs errs' : SinkState) (e : Error) (n : ℕ) → Reports (text_of e) errs errs' → n ≡ run_status e.code e.place → (e ≡ no_memory) ⊎ ((e ≡ bad_words) × ¬ (IsLinesRequest words))
-    → RunResult words (record { source = s; sink = sink; errs = errs }) (record { source = s; sink = sink; errs = errs' }) n
-unasked-from words s sink errs errs' e n reports status (inl is) = inr (inr (memory_ran_out words s sink errs errs' e n is reports status))
-unasked-from words s sink errs errs' e n reports status (inr (is, unasked)) =
+pub unasked-from : (arguments : List (List ℕ)) (s : SourceState) (sink errs errs' : SinkState) (e : Error) (n : ℕ) → Reports (text_of e) errs errs' → n ≡ run_status e.code e.place → (e ≡ no_memory) ⊎ ((e ≡ bad_words) × ¬ (IsLinesRequest arguments))
+    → RunResult arguments (record { source = s; sink = sink; errs = errs }) (record { source = s; sink = sink; errs = errs' }) n
+unasked-from arguments s sink errs errs' e n reports status (inl is) = inr (inr (memory_ran_out arguments s sink errs errs' e n is reports status))
+unasked-from arguments s sink errs errs' e n reports status (inr (is, unasked)) =
     inr (inl (
       status ∙ ap (λ (x : Error). run_status x.code x.place) is,
-      record { unasked = unasked; unread = refl; unwritten = refl; told = subst (λ x. Reports (text_of x) errs errs') is reports },
+      record { unasked = unasked; unread = refl; unwritten = refl; reported = subst (λ x. Reports (text_of x) errs errs') is reports },
     ))

@@ -12,7 +12,7 @@ use Rattle.json_io.specs.Errors.{no_memory, writing_failed}
 use Rattle.json_io.proofs.Known.{Appends-nil, Appends-kept, Appends-trans}
 use Rattle.json_io.proofs.Putting.{AppendsFront-first, AppendsFront-then, Puts-nil}
 use Rattle.json_command.specs.Reporting.{Reports, ReportsUnlessMuted}
-use Rattle.json_lines.specs.declared.run.Tally.{Tally}
+use Rattle.json_lines.specs.declared.run.LineTally.{LineTally}
 use Rattle.json_lines.specs.Lines.{lines}
 use Rattle.json_lines.specs.Rows.{Outcome, rows_of}
 use Rattle.json_lines.specs.Steps.{RunState}
@@ -28,14 +28,14 @@ abbrev pub streams_of : RunState → Streams
 streams_of s = record { source = s.source; sink = s.sink; errs = s.errs }
 
 -- memory ran out for the reader
-pub WritesFewerRows-none : (has : List ℕ → Outcome → Type 0) (a : Streams) (t : Tally) → t.muted ≡ false → WritesFewerRows has a a t no_memory
+pub WritesFewerRows-none : (has : List ℕ → Outcome → Type 0) (a : Streams) (t : LineTally) → t.muted ≡ false → WritesFewerRows has a a t no_memory
 WritesFewerRows-none has a t unmuted =
     record {
       bytes = [];
       gives = gives_nothing a.source;
       stops = some_stops a.source.left;
       cause = tt;
-      reading_told = λ l. absurd (omega (arith, l));
+      reading_reported = λ l. absurd (omega (arith, l));
       writing_told = λ l. absurd (omega (arith, l));
     }
   where
@@ -61,7 +61,7 @@ WritesFewerRows-none has a t unmuted =
 abbrev pub with_sink : RunState → SinkState → Streams
 with_sink s sink = record { source = s.source; sink = sink; errs = s.errs }
 
-gains_flushed : (has : List ℕ → Outcome → Type 0) (done : List (List ℕ)) (a c sink errs errs' : SinkState) (t : Tally) → Keeps c.gained sink.gained → HandlesLines has done a c errs errs' t → GainsRows has done a sink errs errs' t
+gains_flushed : (has : List ℕ → Outcome → Type 0) (done : List (List ℕ)) (a c sink errs errs' : SinkState) (t : LineTally) → Keeps c.gained sink.gained → HandlesLines has done a c errs errs' t → GainsRows has done a sink errs errs' t
 gains_flushed has done a c sink errs errs' t keeps h =
     record { outcomes = h.outcomes; have = h.have; rows = Appends-kept a.gained c.gained sink.gained (rows_of h.outcomes) h.rows.ok keeps; reports = h.reports; bad = h.bad }
 
@@ -73,13 +73,13 @@ WritesAllRows-flushed has a c sink u fresh run flush =
       few = few_bytes a.reader.received c.reader.received (length run.bytes) fresh.received run.reads.received_so run.few;
       drained = run.drained;
       no_fault = run.no_fault;
-      no_sink_fault = same_faults c.sink.faults sink.faults flush.later.faults (λ l. ok_no_error u writing_failed (flush.told l)) ∙ run.no_sink_fault;
+      no_sink_fault = same_faults c.sink.faults sink.faults flush.later.faults (λ l. ok_no_error u writing_failed (flush.reported l)) ∙ run.no_sink_fault;
       flushed = flush.ok;
       handled = IfSome-map a.source.left (λ b. HandlesLines has (lines b) a.sink c.sink a.errs c.errs c.tally) (λ b. GainsRows has (lines b) a.sink sink a.errs c.errs c.tally)
           (λ b h. gains_flushed has (lines b) a.sink c.sink sink a.errs c.errs c.tally flush.keeps h) run.handled;
     }
 
-flush_stops : (has : List ℕ → Outcome → Type 0) (o : Option (List ℕ)) (bytes : List ℕ) (a c sink errs errs' : SinkState) (t : Tally) → IfSome o (λ b. b ≡ bytes)
+flush_stops : (has : List ℕ → Outcome → Type 0) (o : Option (List ℕ)) (bytes : List ℕ) (a c sink errs errs' : SinkState) (t : LineTally) → IfSome o (λ b. b ≡ bytes)
     → IfSome o (λ b. HandlesLines has (lines b) a c errs errs' t) → Keeps c.gained sink.gained
     → IfSome o (λ _. StopsEarly has a sink errs errs' t.muted bytes)
 flush_stops has None bytes a c sink errs errs' t is handled keeps = tt
@@ -105,8 +105,8 @@ WritesFewerRows-flush has a c sink e run flush =
       gives = gives_bytes a.reader c.reader a.source c.source run.bytes run.reads;
       stops = flush_stops has a.source.left run.bytes a.sink c.sink sink a.errs c.errs c.tally run.all run.handled flush.keeps;
       cause = cause-flush run.bytes a.source c.source a.sink sink e.code e.place c.sink run.no_sink_fault flush.cause;
-      reading_told = λ l. absurd (omega (arith, l, run.no_fault));
-      writing_told = λ l. err_same e writing_failed (flush.told (omega (arith, l, run.no_sink_fault)));
+      reading_reported = λ l. absurd (omega (arith, l, run.no_fault));
+      writing_told = λ l. err_same e writing_failed (flush.reported (omega (arith, l, run.no_sink_fault)));
     }
 
 -- ---- what was reported

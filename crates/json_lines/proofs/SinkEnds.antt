@@ -6,7 +6,7 @@ use Rattle.json_io.specs.declared.error.Error.{Error}
 use Rattle.json_io.specs.Known.{Grows}
 use Rattle.json_io.specs.Lending.{lent_as, ComesBack}
 use Rattle.json_io.specs.Outside.{SinkState}
-use Rattle.json_layout.specs.Buffered.{held_behind}
+use Rattle.json_layout.specs.Buffered.{held_after}
 use Rattle.json_print.proofs.TextWriting.{same_name, grown, sent_back}
 
 pub same_faults : (a b : ℕ) → a ≤ b → (a < b → ⊥) → b ≡ a
@@ -22,12 +22,12 @@ pub err_same : (e f : Error) → failed e ≡ failed f → e ≡ f
 err_same e f h = cc
 
 -- a sink was borrowed, and is returned by a writer that held these bytes
-module _ (old now sent lent began : SinkState) (name name' : GName) (held : List ℕ) (b : began ≡ lent_as old name old.gained) (loan_kept : sent.loan ≡ began.loan) (s : sent ≡ held_behind lent held) (back : ComesBack lent now name') where
+module _ (old now sent lent began : SinkState) (name name' : GName) (held : List ℕ) (b : began ≡ lent_as old name old.gained) (loan_kept : sent.loan ≡ began.loan) (s : sent ≡ held_after lent held) (back : ComesBack lent now name') where
   loan : lent.loan ≡ began.loan
   loan = ap (λ (x : SinkState). x.loan) (sym s) ∙ loan_kept
 
-  pub came_back : sent ≡ held_behind (lent_as now name old.gained) held
-  came_back = s ∙ ap (λ x. held_behind x held) (sent_back old now lent began name name' b loan back)
+  pub came_back : sent ≡ held_after (lent_as now name old.gained) held
+  came_back = s ∙ ap (λ x. held_after x held) (sent_back old now lent began name name' b loan back)
 
   pub same_sink : name' ≡ name
   same_sink = same_name old now lent began name name' b loan back

@@ -7,7 +7,7 @@ use Rattle.json_io.proofs.Known.{known-append, Appends-nil, Appends-trans}
 use Rattle.json_layout.specs.TextWriting.{Begins, StopCause, WritesText}
 
 pub WritesText-nil : (s : SinkState) → WritesText s s [] (Ok tt)
-WritesText-nil s = record { ok = Appends-nil s.gained; calm = refl; prefix = tt; cause = tt; told = λ l. absurd (omega (arith, l)); same_loan = refl }
+WritesText-nil s = record { ok = Appends-nil s.gained; calm = refl; prefix = tt; cause = tt; reported = λ l. absurd (omega (arith, l)); same_loan = refl }
 
 -- the first text failed
 pub WritesText-first : (a b : SinkState) (p q : List ℕ) (e : Error) → WritesText a b p (Err e) → WritesText a b (p ++ q) (Err e)
@@ -17,7 +17,7 @@ WritesText-first a b p q e h =
       calm = tt;
       prefix = record { back = h.prefix.back ++ q; whole = sym (known-append a.gained p q) ∙ ap (λ k. append_known k q) h.prefix.whole ∙ known-append b.gained h.prefix.back q };
       cause = h.cause;
-      told = h.told;
+      reported = h.reported;
       same_loan = h.same_loan;
     }
 
@@ -29,7 +29,7 @@ WritesText-then a b c p q u (Ok v) g h =
       calm = h.calm ∙ g.calm;
       prefix = tt;
       cause = tt;
-      told = λ l. absurd (omega (arith, l, h.calm, g.calm));
+      reported = λ l. absurd (omega (arith, l, h.calm, g.calm));
       same_loan = h.same_loan ∙ g.same_loan;
     }
 WritesText-then a b c p q u (Err e) g h =
@@ -38,7 +38,7 @@ WritesText-then a b c p q u (Err e) g h =
       calm = tt;
       prefix = record { back = h.prefix.back; whole = sym (known-append a.gained p q) ∙ ap (λ k. append_known k q) (sym g.ok) ∙ h.prefix.whole };
       cause = subst (λ n. StopCause n c.faults e.code e.place) g.calm h.cause;
-      told = λ l. h.told (omega (arith, l, g.calm));
+      reported = λ l. h.reported (omega (arith, l, g.calm));
       same_loan = h.same_loan ∙ g.same_loan;
     }
 

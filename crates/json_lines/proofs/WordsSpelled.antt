@@ -119,7 +119,7 @@ not_few word cs n s is none columns k p q =
 
 -- ---- the command
 
-pub two_words : (words : List (List ℕ)) (a b : List ℕ) → length words ≡ 2 → slice_get words 0 ≡ Some a → slice_get words 1 ≡ Some b → a ∷ b ∷ [] ≡ words
+pub two_words : (arguments : List (List ℕ)) (a b : List ℕ) → length arguments ≡ 2 → slice_get arguments 0 ≡ Some a → slice_get arguments 1 ≡ Some b → a ∷ b ∷ [] ≡ arguments
 two_words [] a b n e f = absurd (omega arith)
 two_words (x ∷ []) a b n e f = absurd (omega arith)
 two_words (x ∷ y ∷ []) a b n e f = cc
@@ -150,5 +150,5 @@ by_parts : (parts : Option (List ℕ × Option (List ℕ))) (c d : LinesCommand)
 by_parts None c d h k = absurd h
 by_parts (Some p) c d h k = same_command c.columns d.columns c.has d.has (one_spelled columns_in p.0 c.columns d.columns h.columns k.columns) (one_has p.1 c.has d.has h.has k.has)
 
-pub one_command : (words : List (List ℕ)) (c d : LinesCommand) → AsksForColumns words c → AsksForColumns words d → c ≡ d
-one_command words c d h k = by_parts (split_words words) c d h k
+pub one_command : (arguments : List (List ℕ)) (c d : LinesCommand) → AsksForColumns arguments c → AsksForColumns arguments d → c ≡ d
+one_command arguments c d h k = by_parts (split_words arguments) c d h k

@@ -13,7 +13,7 @@ abbrev pub OneOutcome : Type 0
 OneOutcome = (command : LinesCommand) (line : List ℕ) (o o' : Outcome) → HasOutcome command line o → HasOutcome command line o' → o ≡ o'
 
 abbrev pub OneLinesCommand : Type 0
-OneLinesCommand = (words : List (List ℕ)) (c c' : LinesCommand) → AsksForColumns words c → AsksForColumns words c' → c ≡ c'
+OneLinesCommand = (arguments : List (List ℕ)) (c c' : LinesCommand) → AsksForColumns arguments c → AsksForColumns arguments c' → c ≡ c'
 
 -- ---- bytes that are filtered in pieces
 

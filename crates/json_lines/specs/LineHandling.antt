@@ -7,7 +7,7 @@ use Rattle.json_io.specs.declared.error.Error.{Error}
 use Rattle.json_io.specs.declared.message.FaultText.{FaultText}
 use Rattle.json_lines.specs.declared.line_reader.Line.{Line}
 use Rattle.json_lines.specs.declared.line_reader.Line.TheVariants.{Whole, TooLong}
-use Rattle.json_lines.specs.declared.run.Tally.{Tally}
+use Rattle.json_lines.specs.declared.run.LineTally.{LineTally}
 use Rattle.json_lines.specs.Rows.{Outcome, Row, Bad, outcome_row, is_bad, error_bytes, line_too_long}
 use Rattle.json_command.specs.Reporting.{ReportsUnlessMuted}
 
@@ -41,7 +41,7 @@ IsWithinLimit limit (Whole line) = length line.now ≤ limit
 IsWithinLimit limit TooLong = ⊤
 
 -- a line was counted, and its row written or its error reported
-pub record HandlesLine (has : Outcome → Type 0) (old new : Tally) (sink sink' errs errs' : SinkState) : Type 0 where
+pub record HandlesLine (has : Outcome → Type 0) (old new : LineTally) (sink sink' errs errs' : SinkState) : Type 0 where
   pub outcome : Outcome
   pub has_it : has outcome
   pub row : WritesText sink sink' (outcome_row outcome) (Ok tt)
@@ -50,7 +50,7 @@ pub record HandlesLine (has : Outcome → Type 0) (old new : Tally) (sink sink' 
   pub bad : new.bad ≡ (old.bad || is_bad outcome)
 
 -- a line was not handled
-pub record LineFails (has : Outcome → Type 0) (old new : Tally) (sink sink' errs errs' : SinkState) (error : Error) : Type 0 where
+pub record LineFails (has : Outcome → Type 0) (old new : LineTally) (sink sink' errs errs' : SinkState) (error : Error) : Type 0 where
   pub row : RowFails has sink sink' error
   pub silent : errs' ≡ errs
   pub muted : new.muted ≡ old.muted

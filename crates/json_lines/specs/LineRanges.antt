@@ -1,7 +1,7 @@
 -- How a reader finds the first line of what it holds and reads, and its range in the buffer.
 use Rattle.std.specs.Prelude.{◌≡◌, ℕ, ◌+◌, ◌<◌, ◌≤◌, ◌⊎◌, true, false, List, [], ◌++◌, length, take, slice_range, None, Some, IfOk, OnOk, IfErr, MatchOption, Result, ⊤}
 use Rattle.std.specs.declared.option.Option.{Option}
-use Rattle.json_io.specs.Known.{told_as}
+use Rattle.json_io.specs.Known.{if_known}
 use Rattle.json_io.specs.Outside.{SourceState}
 use Rattle.json_io.specs.declared.error.Error.{Error}
 use Rattle.json_lines.specs.declared.line_reader.LineReader.{LineReader}
@@ -33,7 +33,7 @@ new_bytes old new = slice_range new.buffer.items old.end new.end
 pub record ReadsMore (old new : LineReader) (source source' : SourceState) (n : ℕ) : Type 0 where
   pub reads : ReadsBytes (line_reader_state old) (line_reader_state new) source source' (new_bytes old new)
   pub no_fault : source'.faults ≡ source.faults
-  pub ends : n ≡ 0 → source'.left ≡ told_as source.left []
+  pub ends : n ≡ 0 → source'.left ≡ if_known source.left []
   pub same_start : new.start ≡ old.start
   pub end_so : new.end ≡ old.end + n
   pub kept : take old.end new.buffer.items ≡ take old.end old.buffer.items
@@ -62,7 +62,7 @@ pub record DropsLine (old new : ReaderState) (source source' : SourceState) (byt
   pub reads : ReadsBytes old new source source' bytes
   pub no_fault : source'.faults ≡ source.faults
   pub rest : new.held ≡ after_line (old.held ++ bytes)
-  pub ended : (has_newline (old.held ++ bytes) ≡ true) ⊎ (source'.left ≡ told_as source.left [])
+  pub ended : (has_newline (old.held ++ bytes) ≡ true) ⊎ (source'.left ≡ if_known source.left [])
   pub goes_on : new.stopped ≡ None
 
 -- the range of the first line of what was held and read

@@ -3,7 +3,7 @@ use Rattle.std.specs.Prelude.{◌≡◌, ℕ, ◌+◌, ◌<◌, ◌≤◌, ◌�
 use Rattle.std.specs.Option.{option_map}
 use Rattle.std.specs.declared.option.Option.{Option}
 use Rattle.json_command.specs.Input.{max_bytes}
-use Rattle.json_io.specs.Known.{Consumes, prepend_known, told_as}
+use Rattle.json_io.specs.Known.{Consumes, prepend_known, if_known}
 use Rattle.json_io.specs.Outside.{SourceState, Rose, counted}
 use Rattle.json_io.specs.declared.error.Error.{Error}
 use Rattle.json_io.specs.declared.error.ErrorCode.{ErrorCode}
@@ -82,7 +82,7 @@ pub record ReadsLine (old new : ReaderState) (source source' : SourceState) (res
   -- over every source: the same of what was held and read, where a line or the source ends
   pub line_read : IfOk result (λ o. IsLine old.limit (old.held ++ bytes) o)
   pub rest_read : OnOk result (new.held ≡ after_line (old.held ++ bytes))
-  pub ended : OnOk result ((has_newline (old.held ++ bytes) ≡ true) ⊎ (source'.left ≡ told_as source.left []))
+  pub ended : OnOk result ((has_newline (old.held ++ bytes) ≡ true) ⊎ (source'.left ≡ if_known source.left []))
   -- why the call failed
   pub cause : IfErr result (λ e. NextLineCause new source source' e.code e.place)
   pub few : OnOk result (new.received ≤ max_bytes)

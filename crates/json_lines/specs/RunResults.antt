@@ -2,7 +2,7 @@
 use Rattle.std.specs.Prelude.{◌≡◌, ◌⊎◌, ℕ, ◌<◌, ◌≤◌, false, List, [], ◌++◌, length, Option, Some, IfSome, if◌then◌else◌}
 use Rattle.json_io.specs.Errors.{bad_words, no_memory}
 use Rattle.json_io.specs.FaultText.{text_of}
-use Rattle.json_io.specs.Known.{Appends, told_as}
+use Rattle.json_io.specs.Known.{Appends, if_known}
 use Rattle.json_io.specs.Outside.{Rose}
 use Rattle.json_io.specs.Transfer.{AppendsFront}
 use Rattle.json_io.specs.declared.error.Error.{Error}
@@ -18,9 +18,9 @@ use Rattle.json_lines.specs.Words.{AsksForColumns, IsLinesRequest}
 
 -- the words ask for a command, and where the bytes of the source are known, this holds of the
 -- outcomes of their lines
-pub record OfOutcomes (words : List (List ℕ)) (known : Option (List ℕ)) (holds : List Outcome → Type 0) : Type 0 where
+pub record OfOutcomes (arguments : List (List ℕ)) (known : Option (List ℕ)) (holds : List Outcome → Type 0) : Type 0 where
   pub command : LinesCommand
-  pub asked : AsksForColumns words command
+  pub requested_table : AsksForColumns arguments command
   pub so : IfSome known (λ bytes. (outcomes : List Outcome) × HaveOutcomes command (lines bytes) outcomes × holds outcomes)
 
 -- ---- status 0 or 1: the run is complete
@@ -31,38 +31,38 @@ pub record ReadsAll (old new : Streams) : Type 0 where
   pub bytes : List ℕ
   pub gives : GivesBytes old.source new.source bytes
   pub few : length bytes ≤ max_bytes
-  pub drained : new.source.left ≡ told_as old.source.left []
+  pub drained : new.source.left ≡ if_known old.source.left []
   pub read : new.source.faults ≡ old.source.faults
   pub written : new.sink.faults ≡ old.sink.faults
   pub flushed : new.sink.unflushed ≡ false
 
 -- the sink gained exactly the rows of all lines
 abbrev pub AppendsRows : List (List ℕ) → Streams → Streams → Type 0
-AppendsRows words old new = OfOutcomes words old.source.left (λ outcomes. Appends old.sink.gained new.sink.gained (rows_of outcomes))
+AppendsRows arguments old new = OfOutcomes arguments old.source.left (λ outcomes. Appends old.sink.gained new.sink.gained (rows_of outcomes))
 
 -- the error of each bad line was reported with its number, or a prefix of these errors where that
 -- sink failed or memory ran out
 abbrev pub TellsErrors : List (List ℕ) → Streams → Streams → Type 0
-TellsErrors words old new = OfOutcomes words old.source.left (λ outcomes. Reports (errors_from 1 outcomes) old.errs new.errs)
+TellsErrors arguments old new = OfOutcomes arguments old.source.left (λ outcomes. Reports (errors_from 1 outcomes) old.errs new.errs)
 
 -- the status says whether some line is bad
 abbrev pub StatusTellsBad : List (List ℕ) → Streams → ℕ → Type 0
-StatusTellsBad words old status = OfOutcomes words old.source.left (λ outcomes. status ≡ (if some_bad outcomes then 1 else 0))
+StatusTellsBad arguments old status = OfOutcomes arguments old.source.left (λ outcomes. status ≡ (if some_bad outcomes then 1 else 0))
 
-pub record Completes (words : List (List ℕ)) (old new : Streams) (status : ℕ) : Type 0 where
+pub record Completes (arguments : List (List ℕ)) (old new : Streams) (status : ℕ) : Type 0 where
   pub known : (status ≡ 0) ⊎ (status ≡ 1)
   pub all : ReadsAll old new
-  pub rows : AppendsRows words old new
-  pub errors : TellsErrors words old new
-  pub bad : StatusTellsBad words old status
+  pub rows : AppendsRows arguments old new
+  pub errors : TellsErrors arguments old new
+  pub bad : StatusTellsBad arguments old status
 
 -- ---- status 2: the words ask for nothing, and nothing was read or written
 
-pub record RefusesWords (words : List (List ℕ)) (old new : Streams) : Type 0 where
-  pub unasked : ¬ (IsLinesRequest words)
+pub record RefusesWords (arguments : List (List ℕ)) (old new : Streams) : Type 0 where
+  pub unasked : ¬ (IsLinesRequest arguments)
   pub unread : new.source ≡ old.source
   pub unwritten : new.sink ≡ old.sink
-  pub told : Reports (text_of bad_words) old.errs new.errs
+  pub reported : Reports (text_of bad_words) old.errs new.errs
 
 -- ---- status 4, 5, 6 or 7: the run failed
 
@@ -80,43 +80,43 @@ pub record TellsErrorsPrefix (command : LinesCommand) (bytes : List ℕ) (error 
   pub first : List Outcome
   pub later : List Outcome
   pub parted : outcomes ≡ first ++ later
-  pub told : Reports (errors_from 1 first ++ text_of error) old.errs new.errs
+  pub reported : Reports (errors_from 1 first ++ text_of error) old.errs new.errs
 
 -- memory ran out before the words were known
 pub record FailsBeforeReading (error : Error) (old new : Streams) : Type 0 where
   pub lacks : error ≡ no_memory
   pub unread : new.source ≡ old.source
   pub unwritten : new.sink ≡ old.sink
-  pub told : Reports (text_of error) old.errs new.errs
+  pub reported : Reports (text_of error) old.errs new.errs
 
 -- the words ask for a command, and a part of it was done
-pub record FailsWhileReading (words : List (List ℕ)) (bytes : List ℕ) (error : Error) (old new : Streams) : Type 0 where
+pub record FailsWhileReading (arguments : List (List ℕ)) (bytes : List ℕ) (error : Error) (old new : Streams) : Type 0 where
   pub command : LinesCommand
-  pub asked : AsksForColumns words command
+  pub requested_table : AsksForColumns arguments command
   pub rows : IfSome old.source.left (λ _. AppendsRowsPrefix command bytes old new)
   pub errors : IfSome old.source.left (λ _. TellsErrorsPrefix command bytes error old new)
 
-pub record FailsRun (words : List (List ℕ)) (old new : Streams) (status : ℕ) : Type 0 where
+pub record FailsRun (arguments : List (List ℕ)) (old new : Streams) (status : ℕ) : Type 0 where
   pub error : Error
   pub status_is : status ≡ run_status error.code error.place
   -- the bytes that the source gave in this call
   pub bytes : List ℕ
   pub gives : GivesBytes old.source new.source bytes
   pub cause : RunErrorCause bytes old new error.code error.place
-  pub did : FailsBeforeReading error old new ⊎ FailsWhileReading words bytes error old new
+  pub did : FailsBeforeReading error old new ⊎ FailsWhileReading arguments bytes error old new
   -- the status tells of each failed call of source or sink
-  pub read_told : old.source.faults < new.source.faults → status ≡ 4
-  pub write_told : old.sink.faults < new.sink.faults → status ≡ 5
+  pub read_error : old.source.faults < new.source.faults → status ≡ 4
+  pub write_error : old.sink.faults < new.sink.faults → status ≡ 5
 
 -- ---- all of it
 
 abbrev pub RunResult : List (List ℕ) → Streams → Streams → ℕ → Type 0
-RunResult words old new status = Completes words old new status ⊎ ((status ≡ 2) × RefusesWords words old new) ⊎ FailsRun words old new status
+RunResult arguments old new status = Completes arguments old new status ⊎ ((status ≡ 2) × RefusesWords arguments old new) ⊎ FailsRun arguments old new status
 
 -- the words ask for a command, the source has at most 4,294,967,295 bytes, which are known, and
 -- no call failed
-pub record NothingFails (words : List (List ℕ)) (old new : Streams) : Type 0 where
-  pub asked : IsLinesRequest words
+pub record NothingFails (arguments : List (List ℕ)) (old new : Streams) : Type 0 where
+  pub requested_table : IsLinesRequest arguments
   pub bytes : List ℕ
   pub known : old.source.left ≡ Some bytes
   pub few : length bytes ≤ max_bytes

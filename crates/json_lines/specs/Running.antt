@@ -1,6 +1,6 @@
 -- What the loop over all lines does.
 use Rattle.std.specs.Prelude.{◌≡◌, ℕ, ◌<◌, ◌≤◌, Bool, false, List, [], ◌++◌, None, IfSome, Ok, ◌⊎◌, ⊤}
-use Rattle.json_io.specs.Known.{told_as, append_known}
+use Rattle.json_io.specs.Known.{if_known, append_known}
 use Rattle.json_io.specs.Outside.{SinkState, SourceState, Rose}
 use Rattle.json_layout.specs.TextWriting.{Begins as BeginsWith, WritesText}
 use Rattle.json_io.specs.declared.error.Error.{Error}
@@ -10,7 +10,7 @@ use Rattle.json_io.specs.declared.error.Place.{Place}
 use Rattle.json_io.specs.declared.error.Place.TheVariants.{None as nowhere, Writing}
 use Rattle.json_io.specs.Errors.{reading_failed, writing_failed}
 use Rattle.json_lines.specs.declared.line_reader.LineReader.{LineReader}
-use Rattle.json_lines.specs.declared.run.Tally.{Tally}
+use Rattle.json_lines.specs.declared.run.LineTally.{LineTally}
 use Rattle.json_lines.specs.Lines.{lines}
 use Rattle.json_lines.specs.Reading.{line_reader_state, ReadsBytes, NextLineCause}
 use Rattle.json_command.specs.Input.{max_bytes}
@@ -28,7 +28,7 @@ pub record IsFreshRun (s : RunState) : Type 0 where
   pub unmuted : s.tally.muted ≡ false
 
 -- the rows of these lines were written, and their errors reported
-pub record HandlesLines (has : List ℕ → Outcome → Type 0) (done : List (List ℕ)) (sink sink' errs errs' : SinkState) (tally : Tally) : Type 0 where
+pub record HandlesLines (has : List ℕ → Outcome → Type 0) (done : List (List ℕ)) (sink sink' errs errs' : SinkState) (tally : LineTally) : Type 0 where
   pub outcomes : List Outcome
   pub have : AllHave has done outcomes
   pub rows : WritesText sink sink' (rows_of outcomes) (Ok tt)
@@ -40,7 +40,7 @@ pub record FinishesLines (has : List ℕ → Outcome → Type 0) (old new : RunS
   pub bytes : List ℕ
   pub reads : ReadsBytes old.reader new.reader old.source new.source bytes
   pub all : IfSome old.source.left (λ b. b ≡ bytes)
-  pub drained : new.source.left ≡ told_as old.source.left []
+  pub drained : new.source.left ≡ if_known old.source.left []
   pub few : new.reader.received ≤ max_bytes
   pub no_fault : new.source.faults ≡ old.source.faults
   pub no_sink_fault : new.sink.faults ≡ old.sink.faults
@@ -74,9 +74,9 @@ pub record FailsEarly (has : List ℕ → Outcome → Type 0) (old new : RunStat
   pub stops : IfSome old.source.left (λ _. StopsEarly has old.sink new.sink old.errs new.errs new.tally.muted bytes)
   pub cause : NextLineCause new.reader old.source new.source error.code error.place ⊎ (RowErrorCause old.sink new.sink error.code error.place × (new.source.faults ≡ old.source.faults) × (new.reader.received ≤ max_bytes))
   -- the error tells of each failed call
-  pub reading_told : old.source.faults < new.source.faults → error ≡ reading_failed
+  pub reading_reported : old.source.faults < new.source.faults → error ≡ reading_failed
   pub writing_told : old.sink.faults < new.sink.faults → error ≡ writing_failed
   pub same_loan : new.sink.loan ≡ old.sink.loan
 
-abbrev pub run_state : LineReader → SourceState → SinkState → SinkState → Tally → RunState
+abbrev pub run_state : LineReader → SourceState → SinkState → SinkState → LineTally → RunState
 run_state reader source sink errs tally = record { reader = line_reader_state reader; source = source; sink = sink; errs = errs; tally = tally }

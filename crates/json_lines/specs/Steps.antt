@@ -3,7 +3,7 @@ use Rattle.std.specs.Prelude.{◌≡◌, ℕ, Bool, true, false, List, None, Som
 use Rattle.json_io.specs.Outside.{SinkState, SourceState}
 use Rattle.json_io.specs.declared.error.Error.{Error}
 use Rattle.json_lines.specs.declared.line_reader.Line.{Line}
-use Rattle.json_lines.specs.declared.run.Tally.{Tally}
+use Rattle.json_lines.specs.declared.run.LineTally.{LineTally}
 use Rattle.json_lines.specs.Reading.{ReaderState, NextLineCall}
 use Rattle.json_lines.specs.Rows.{Outcome}
 use Rattle.json_lines.specs.LineHandling.{LineHas, HandlesLine, LineFails}
@@ -14,7 +14,7 @@ pub record RunState : Type 0 where
   pub source : SourceState
   pub sink : SinkState
   pub errs : SinkState
-  pub tally : Tally
+  pub tally : LineTally
 
 -- a line was read and handled
 pub record TakesLine (has : List ℕ → Outcome → Type 0) (old new : RunState) : Type 0 where

@@ -5,12 +5,12 @@ use Rattle.json_model.specs.Print.{quoted}
 use Rattle.json_value.specs.Edits.{path_steps}
 use Rattle.json_lines.specs.Cells as cell
 use Rattle.json_lines.specs.Cells.{LinesCommand, dash}
-use Rattle.json_lines.specs.declared.table.Kind.{Kind}
-use Rattle.json_lines.specs.declared.table.Kind.TheVariants.{Text, Int, Bool as Truth, Json}
+use Rattle.json_lines.specs.declared.table.ColumnKind.{ColumnKind}
+use Rattle.json_lines.specs.declared.table.ColumnKind.TheVariants.{Text, Int, Bool as Truth, Json}
 use Rattle.json_lines.specs.declared.table.Column.{Column}
 use Rattle.json_lines.specs.declared.table.Table.{Table}
 
-abbrev pub cell_kind : Kind → cell.Kind
+abbrev pub cell_kind : ColumnKind → cell.ColumnKind
 cell_kind Text = cell.texts
 cell_kind Int = cell.integers
 cell_kind Truth = cell.booleans

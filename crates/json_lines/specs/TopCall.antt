@@ -1,6 +1,6 @@
 -- What the call that writes all rows does.
 use Rattle.std.specs.Prelude.{◌≡◌, ℕ, ◌<◌, ◌≤◌, Bool, false, List, [], ◌++◌, length, IfSome, ⊤}
-use Rattle.json_io.specs.Known.{Appends, told_as}
+use Rattle.json_io.specs.Known.{Appends, if_known}
 use Rattle.json_io.specs.Errors.{reading_failed, writing_failed}
 use Rattle.json_io.specs.Outside.{SinkState, SourceState, Rose}
 use Rattle.json_io.specs.Transfer.{AppendsFront}
@@ -11,7 +11,7 @@ use Rattle.json_io.specs.declared.error.ErrorCode.{ErrorCode}
 use Rattle.json_io.specs.declared.error.ErrorCode.TheVariants.{NoMemory, Io, TooLarge}
 use Rattle.json_io.specs.declared.error.Place.{Place}
 use Rattle.json_io.specs.declared.error.Place.TheVariants.{None as nowhere, Reading, Writing}
-use Rattle.json_lines.specs.declared.run.Tally.{Tally}
+use Rattle.json_lines.specs.declared.run.LineTally.{LineTally}
 use Rattle.json_lines.specs.Lines.{lines}
 use Rattle.json_lines.specs.Reading.{GivesBytes}
 use Rattle.json_command.specs.Input.{max_bytes}
@@ -40,7 +40,7 @@ abbrev pub RunErrorCause : List ℕ → Streams → Streams → ErrorCode → Pl
 RunErrorCause bytes old new code place = ErrorCause bytes old.source new.source old.sink new.sink code place
 
 -- the sink gained exactly the rows of these lines, and their errors were reported
-pub record GainsRows (has : List ℕ → Outcome → Type 0) (done : List (List ℕ)) (sink sink' errs errs' : SinkState) (tally : Tally) : Type 0 where
+pub record GainsRows (has : List ℕ → Outcome → Type 0) (done : List (List ℕ)) (sink sink' errs errs' : SinkState) (tally : LineTally) : Type 0 where
   pub outcomes : List Outcome
   pub have : AllHave has done outcomes
   pub rows : Appends sink.gained sink'.gained (rows_of outcomes)
@@ -48,27 +48,27 @@ pub record GainsRows (has : List ℕ → Outcome → Type 0) (done : List (List 
   pub bad : tally.bad ≡ some_bad outcomes
 
 -- all rows were written and flushed
-pub record WritesAllRows (has : List ℕ → Outcome → Type 0) (old new : Streams) (tally : Tally) : Type 0 where
+pub record WritesAllRows (has : List ℕ → Outcome → Type 0) (old new : Streams) (tally : LineTally) : Type 0 where
   pub bytes : List ℕ
   pub gives : GivesBytes old.source new.source bytes
   pub few : length bytes ≤ max_bytes
-  pub drained : new.source.left ≡ told_as old.source.left []
+  pub drained : new.source.left ≡ if_known old.source.left []
   pub no_fault : new.source.faults ≡ old.source.faults
   pub no_sink_fault : new.sink.faults ≡ old.sink.faults
   pub flushed : new.sink.unflushed ≡ false
   pub handled : IfSome old.source.left (λ b. GainsRows has (lines b) old.sink new.sink old.errs new.errs tally)
 
 -- the call failed, and the writer may hold rows back
-pub record WritesFewerRows (has : List ℕ → Outcome → Type 0) (old new : Streams) (tally : Tally) (error : Error) : Type 0 where
+pub record WritesFewerRows (has : List ℕ → Outcome → Type 0) (old new : Streams) (tally : LineTally) (error : Error) : Type 0 where
   pub bytes : List ℕ
   pub gives : GivesBytes old.source new.source bytes
   pub stops : IfSome old.source.left (λ _. StopsEarly has old.sink new.sink old.errs new.errs tally.muted bytes)
   pub cause : RunErrorCause bytes old new error.code error.place
-  pub reading_told : old.source.faults < new.source.faults → error ≡ reading_failed
+  pub reading_reported : old.source.faults < new.source.faults → error ≡ reading_failed
   pub writing_told : old.sink.faults < new.sink.faults → error ≡ writing_failed
 
 -- a new tally
-pub record IsNewTally (t : Tally) : Type 0 where
+pub record IsNewTally (t : LineTally) : Type 0 where
   pub number : t.number ≡ 0
   pub good : t.bad ≡ false
   pub unmuted : t.muted ≡ false
@@ -87,12 +87,12 @@ pub record WritesPrefixes (has : List ℕ → Outcome → Type 0) (sink sink' er
   pub reports : ReportsUnlessMuted false muted errs errs' (errors_from 1 outcomes)
 
 -- the call failed, seen from the sink itself
-pub record WritesPartOfTable (has : List ℕ → Outcome → Type 0) (old new : Streams) (tally : Tally) (error : Error) : Type 0 where
+pub record WritesPartOfTable (has : List ℕ → Outcome → Type 0) (old new : Streams) (tally : LineTally) (error : Error) : Type 0 where
   pub bytes : List ℕ
   pub gives : GivesBytes old.source new.source bytes
   pub prefixes : IfSome old.source.left (λ _. WritesPrefixes has old.sink new.sink old.errs new.errs tally.muted bytes)
   pub cause : RunErrorCause bytes old new error.code error.place
-  pub reading_told : old.source.faults < new.source.faults → error ≡ reading_failed
+  pub reading_reported : old.source.faults < new.source.faults → error ≡ reading_failed
   pub writing_told : old.sink.faults < new.sink.faults → error ≡ writing_failed
 
 -- ---- the statuses

@@ -6,17 +6,17 @@ use Rattle.json_model.specs.Edit.{Step}
 use Rattle.json_text.specs.Ruled.{usual_rules}
 use Rattle.json_value.specs.EditTrees.{both, each_in, path_in}
 use Rattle.json_command.specs.Input.{IsInput}
-use Rattle.json_lines.specs.Cells.{Kind, texts, integers, booleans, any_json, Column, LinesCommand}
+use Rattle.json_lines.specs.Cells.{ColumnKind, texts, integers, booleans, any_json, Column, LinesCommand}
 
 -- the kind of this name
-abbrev pub kind_named : List ℕ → Option Kind
+abbrev pub kind_named : List ℕ → Option ColumnKind
 kind_named name =
     cond (bytes_eq name (codes "text")) (Some texts)
     (cond (bytes_eq name (codes "int")) (Some integers)
     (cond (bytes_eq name (codes "bool")) (Some booleans)
     (cond (bytes_eq name (codes "json")) (Some any_json) None)))
 
-abbrev pub kind_in : Tree → Option Kind
+abbrev pub kind_in : Tree → Option ColumnKind
 kind_in t = option_and_then kind_named (string_of t)
 
 -- a column: [path, kind]
@@ -69,7 +69,7 @@ pub record SpellsCommand (columns_word : List ℕ) (has_word : Option (List ℕ)
 
 -- the words ask for this
 abbrev pub AsksForColumns : List (List ℕ) → LinesCommand → Type 0
-AsksForColumns words command = MatchOption (split_words words) ⊥ (λ p. SpellsCommand p.0 p.1 command)
+AsksForColumns arguments command = MatchOption (split_words arguments) ⊥ (λ p. SpellsCommand p.0 p.1 command)
 
 abbrev pub IsLinesRequest : List (List ℕ) → Type 0
-IsLinesRequest words = (command : LinesCommand) × AsksForColumns words command
+IsLinesRequest arguments = (command : LinesCommand) × AsksForColumns arguments command

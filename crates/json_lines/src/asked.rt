@@ -2,7 +2,7 @@
 ghost use Rattle.std.specs.Prelude.{◌≡◌, ◌≢◌, ◌⊎◌, ◌≤◌, List, ℕ, [], ◌∷◌, length, map, drop, cond, Some, None, IfOk, IfErr, MatchOption, option_map};
 ghost use Rattle.json_io.specs.Errors.{no_memory, bad_words};
 ghost use Rattle.json_io.specs.declared.error.ErrorCode.TheVariants.{NoMemory, TypeUnmatched};
-ghost use Rattle.json_tokens.specs.Refusals.{refusal as spec_refusal};
+ghost use Rattle.json_tokens.specs.Refusals.{error_without_place as spec_refusal};
 ghost use Rattle.json_data.specs.Spelled.{Unspelled};
 ghost use Rattle.json_model.specs.Edit.{Step};
 ghost use Rattle.json_value.specs.Denotes.{tree_of};
@@ -13,22 +13,23 @@ ghost use Rattle.json_lines.specs.Cells.{LinesCommand};
 ghost use Rattle.json_lines.specs.Tables.{cell_kind, table_column, table_command};
 ghost use Rattle.json_lines.specs.Words.{kind_named as spec_kind_named, kind_in, column_of_pair, column_in, columns_in, WordSpells, WordSpellsNothing, NoColumns, is_has_option, split_words, SpellsCommand, SpellsHas, AsksForColumns, IsLinesRequest};
 
-use crate::table::{Column, Kind, Table};
+use crate::table::{Column, ColumnKind, Table};
 use json_command::{BAD_WORDS, arguments_error, read_argument};
-use json_data::{from_value, refusal};
-use json_text::{Error, ErrorCode, Result, Words};
+use json_data::from_value;
+use json_io::{Error, ErrorCode, Result, Words};
+use json_tokens::error_without_place;
 use json_value::{ArrayView, Path, Value, View};
 use std::alloc::Global;
 
 // Returns the error of a value that spells something else.
-fn type_unmatched() -> Error
+fn wrong_type() -> Error
     ensures { result ≡ spec_refusal TypeUnmatched }
 {
-    refusal(ErrorCode::TypeUnmatched)
+    error_without_place(ErrorCode::TypeUnmatched)
 }
 
 // Reads the path that a value spells.
-fn read_path(alloc: Global, value: &Value) -> Result<Path>
+fn read_column_path(alloc: Global, value: &Value) -> Result<Path>
     ensures ok { IfOk result (λ p. path_in (tree_of value.now) ≡ Some (path_steps p)) }
     ensures err { IfErr result (Unspelled (path_in (tree_of value.now))) }
 {
@@ -44,26 +45,26 @@ fn read_path_seen(alloc: Global, view: View<'_>) -> Result<Path>
     ensures err { IfErr result (Unspelled (path_in (seen view.entry))) }
 {
     match view.to_value(alloc) {
-        Ok(value) => read_path(alloc, &value),
+        Ok(value) => read_column_path(alloc, &value),
         Err(error) => Err(error),
     }
 }
 
 // Returns the kind with this name.
-fn kind_of_name(name: &str) -> Option<Kind>
+fn kind_of_name(name: &str) -> Option<ColumnKind>
     ensures { option_map cell_kind result ≡ spec_kind_named name.now }
 {
     match name {
-        "text" => Some(Kind::Text),
-        "int" => Some(Kind::Int),
-        "bool" => Some(Kind::Bool),
-        "json" => Some(Kind::Json),
+        "text" => Some(ColumnKind::Text),
+        "int" => Some(ColumnKind::Int),
+        "bool" => Some(ColumnKind::Bool),
+        "json" => Some(ColumnKind::Json),
         _ => None,
     }
 }
 
 // Reads the kind that a view names.
-fn read_kind(view: View<'_>) -> Option<Kind>
+fn read_kind(view: View<'_>) -> Option<ColumnKind>
     ensures { option_map cell_kind result ≡ kind_in (seen view.entry) }
 {
     match view.text() {
@@ -86,14 +87,14 @@ fn pair_of_elements<'a>(array: ArrayView<'a>) -> Option<(View<'a>, View<'a>)>
 }
 
 // Reads the column of a path and a kind.
-fn read_pair(alloc: Global, path: View<'_>, kind: View<'_>) -> Result<Column>
+fn read_column_pair(alloc: Global, path: View<'_>, kind: View<'_>) -> Result<Column>
     ensures ok { IfOk result (λ c.
         column_of_pair (seen path.entry ∷ seen kind.entry ∷ []) ≡ Some (table_column c)) }
     ensures err { IfErr result (Unspelled
         (column_of_pair (seen path.entry ∷ seen kind.entry ∷ []))) }
 {
     let Some(kind) = read_kind(kind) else {
-        return Err(type_unmatched());
+        return Err(wrong_type());
     };
     match read_path_seen(alloc, path) {
         Ok(path) => Ok(Column { path, kind }),
@@ -107,11 +108,11 @@ fn read_column(alloc: Global, view: View<'_>) -> Result<Column>
     ensures err { IfErr result (Unspelled (column_in (seen view.entry))) }
 {
     let Some(array) = view.as_array() else {
-        return Err(type_unmatched());
+        return Err(wrong_type());
     };
     match pair_of_elements(array) {
-        Some((path, kind)) => read_pair(alloc, path, kind),
-        None => Err(type_unmatched()),
+        Some((path, kind)) => read_column_pair(alloc, path, kind),
+        None => Err(wrong_type()),
     }
 }
 
@@ -136,7 +137,7 @@ fn read_columns(alloc: Global, view: View<'_>) -> Result<Vec<Column>>
 {
     match view.as_array() {
         Some(array) => read_each(alloc, array),
-        None => Err(type_unmatched()),
+        None => Err(wrong_type()),
     }
 }
 
@@ -236,24 +237,24 @@ fn split_pair<'a>(first: &'a str, second: &'a str) -> Option<(&'a str, Option<&'
 }
 
 // Returns the columns word and the text of the option, if any.
-fn split_words(words: &Words) -> Option<(&str, Option<&str>)>
+fn split_words(arguments: &Words) -> Option<(&str, Option<&str>)>
     ensures { option_map (λ p. (p.0.now, option_map (λ s. s.now) p.1)) result
-        ≡ split_words words.now }
+        ≡ split_words arguments.now }
 {
-    match words.len() {
-        1 => Some((words.word(0), None)),
-        2 => split_pair(words.word(0), words.word(1)),
+    match arguments.len() {
+        1 => Some((arguments.word(0), None)),
+        2 => split_pair(arguments.word(0), arguments.word(1)),
         _ => None,
     }
 }
 
 // Reads the table that the words ask for.
-pub(crate) fn asked(alloc: Global, words: &Words) -> Result<Table>
-    ensures ok { IfOk result (λ t. AsksForColumns words.now (table_command t)) }
+pub(crate) fn requested_table(alloc: Global, arguments: &Words) -> Result<Table>
+    ensures ok { IfOk result (λ t. AsksForColumns arguments.now (table_command t)) }
     ensures err { IfErr result
-        (λ e. (e ≡ no_memory) ⊎ ((e ≡ bad_words) × ¬ (IsLinesRequest words.now))) }
+        (λ e. (e ≡ no_memory) ⊎ ((e ≡ bad_words) × ¬ (IsLinesRequest arguments.now))) }
 {
-    match split_words(words) {
+    match split_words(arguments) {
         Some((columns, has)) => read_table(alloc, columns, has),
         None => Err(BAD_WORDS),
     }

@@ -8,17 +8,14 @@ ghost use Rattle.json_layout.specs.TextWriting.{WritesText};
 ghost use Rattle.json_lines.specs.Cells.{cell_of, cell_where};
 ghost use Rattle.json_lines.specs.Tables.{cell_kind, cell_separator, string_cell, integer_column, boolean_cell};
 
-use crate::table::Kind;
+use crate::table::ColumnKind;
 use json_doc::DocView;
-use json_number::{Integer, Number};
-use json_print::{
+use json_io::{Result, Sink, SinkResult};
+use json_layout::{
     BufferedWriter, OneLine, answered, show_piece, show_signed, show_text, show_unsigned,
 };
-use json_text::{Result, Sink, SinkError};
+use json_number::{Integer, Number};
 use json_value::View;
-
-// The result of a write to the buffer.
-type Shown = std::result::Result<(), SinkError>;
 
 // Writes some bytes.
 pub(crate) fn write_bytes<W: Sink>(out: &mut BufferedWriter<W>, piece: &[u8]) -> Result<()>
@@ -30,7 +27,7 @@ pub(crate) fn write_bytes<W: Sink>(out: &mut BufferedWriter<W>, piece: &[u8]) ->
 }
 
 // Shows an integer.
-fn show_integer<W: Sink>(out: &mut BufferedWriter<W>, number: Number) -> Shown
+fn show_integer<W: Sink>(out: &mut BufferedWriter<W>, number: Number) -> SinkResult
     ensures { Adds
         (⟦<BufferedWriter<W> as Sink>⟧.state out.old) (⟦<BufferedWriter<W> as Sink>⟧.state out.new)
         (text_of_number number) result }
@@ -42,7 +39,7 @@ fn show_integer<W: Sink>(out: &mut BufferedWriter<W>, number: Number) -> Shown
 }
 
 // Shows the cell of a string: a dash where there is none.
-fn show_string_cell<W: Sink>(out: &mut BufferedWriter<W>, string: Option<&str>) -> Shown
+fn show_string_cell<W: Sink>(out: &mut BufferedWriter<W>, string: Option<&str>) -> SinkResult
     ensures { Adds
         (⟦<BufferedWriter<W> as Sink>⟧.state out.old) (⟦<BufferedWriter<W> as Sink>⟧.state out.new)
         (string_cell (option_map (λ s. s.now) string.entry)) result }
@@ -54,7 +51,7 @@ fn show_string_cell<W: Sink>(out: &mut BufferedWriter<W>, string: Option<&str>) 
 }
 
 // Shows the cell of an integer: a dash where there is none.
-fn show_integer_cell<W: Sink>(out: &mut BufferedWriter<W>, number: Option<Number>) -> Shown
+fn show_integer_cell<W: Sink>(out: &mut BufferedWriter<W>, number: Option<Number>) -> SinkResult
     ensures { Adds
         (⟦<BufferedWriter<W> as Sink>⟧.state out.old) (⟦<BufferedWriter<W> as Sink>⟧.state out.new)
         (integer_column (option_map text_of_number number)) result }
@@ -66,7 +63,7 @@ fn show_integer_cell<W: Sink>(out: &mut BufferedWriter<W>, number: Option<Number
 }
 
 // Shows the cell of a boolean: a dash where there is none.
-fn show_boolean_cell<W: Sink>(out: &mut BufferedWriter<W>, boolean: Option<bool>) -> Shown
+fn show_boolean_cell<W: Sink>(out: &mut BufferedWriter<W>, boolean: Option<bool>) -> SinkResult
     ensures { Adds
         (⟦<BufferedWriter<W> as Sink>⟧.state out.old) (⟦<BufferedWriter<W> as Sink>⟧.state out.new)
         (boolean_cell boolean) result }
@@ -79,23 +76,27 @@ fn show_boolean_cell<W: Sink>(out: &mut BufferedWriter<W>, boolean: Option<bool>
 }
 
 // Writes the cell of a value.
-fn write_value<W: Sink>(out: &mut BufferedWriter<W>, kind: Kind, view: DocView<'_>) -> Result<()>
+fn write_value<W: Sink>(
+    out: &mut BufferedWriter<W>,
+    kind: ColumnKind,
+    view: DocView<'_>,
+) -> Result<()>
     ensures { WritesText
         (⟦<BufferedWriter<W> as Sink>⟧.state out.old) (⟦<BufferedWriter<W> as Sink>⟧.state out.new)
         (cell_of (cell_kind kind) (view_tree view.entry)) result }
 {
     match kind {
-        Kind::Text => answered(show_string_cell(out, view.text())),
-        Kind::Int => answered(show_integer_cell(out, view.as_number())),
-        Kind::Bool => answered(show_boolean_cell(out, view.as_bool())),
-        Kind::Json => View::packed(view).print(OneLine, out),
+        ColumnKind::Text => answered(show_string_cell(out, view.text())),
+        ColumnKind::Int => answered(show_integer_cell(out, view.as_number())),
+        ColumnKind::Bool => answered(show_boolean_cell(out, view.as_bool())),
+        ColumnKind::Json => View::packed(view).print(OneLine, out),
     }
 }
 
 // Writes a cell: a dash where there is no value.
 fn write_cell<W: Sink>(
     out: &mut BufferedWriter<W>,
-    kind: Kind,
+    kind: ColumnKind,
     found: Option<DocView<'_>>,
 ) -> Result<()>
     ensures { WritesText
@@ -125,7 +126,7 @@ fn write_separator<W: Sink>(out: &mut BufferedWriter<W>, first: bool) -> Result<
 pub(crate) fn write_next_cell<W: Sink>(
     out: &mut BufferedWriter<W>,
     first: bool,
-    kind: Kind,
+    kind: ColumnKind,
     found: Option<DocView<'_>>,
 ) -> Result<()>
     ensures { WritesText

@@ -19,7 +19,7 @@ pub fn one_outcome()
 {}
 
 /// Words ask for at most one command.
-pub fn one_command()
+pub fn one_table()
     ensures { OneLinesCommand }
 {}
 

@@ -6,12 +6,12 @@
 //! ```
 //! use json_lines::run_lines;
 //! use json_text::{SliceSource, VecSink, Words};
-//! let mut words = Words::new(alloc);
-//! words.push("[[[\"a\"],\"int\"]]")?;
+//! let mut arguments = Words::new(alloc);
+//! arguments.push("[[[\"a\"],\"int\"]]")?;
 //! let mut source = SliceSource::new(b"{\"a\":1}\n{\"a\":2}\n");
 //! let mut sink = VecSink::new(alloc);
 //! let mut errs = VecSink::new(alloc);
-//! let status = run_lines(alloc, &words, &mut source, &mut sink, &mut errs);
+//! let status = run_lines(alloc, &arguments, &mut source, &mut sink, &mut errs);
 //! assert_eq!(rt; status, 0);
 //! assert_eq!(rt; sink.as_slice(), b"1\n2\n".as_slice());
 //! ```

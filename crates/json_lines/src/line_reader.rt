@@ -4,7 +4,7 @@ ghost use Rattle.json_io.specs.Errors.{OnlyNoMemory};
 ghost use Rattle.json_lines.specs.Lines.{IsFirstNewline, has_newline};
 ghost use Rattle.json_lines.specs.Ranges.{IsRangeFrom, IsLastRange};
 
-use json_text::{Error, ErrorCode, Failed, Place, Result, Source};
+use json_io::{Error, ErrorCode, Failed, Place, Result, Source};
 use memchr::{memchr, memrchr};
 use std::alloc::Global;
 

@@ -11,7 +11,7 @@ use json_value::PointerNode;
 
 // Returns the value of the first member named `key`.
 #[inline(always)]
-fn find_member<'a>(members: DocPairs<'a>, key: &str) -> Option<DocView<'a>>
+fn find_packed_member<'a>(members: DocPairs<'a>, key: &str) -> Option<DocView<'a>>
     ensures { option_map view_tree result
         ≡ option_map (λ p. p.1) (first_of key.now (pairs_left members.entry)) }
 {
@@ -25,12 +25,12 @@ fn find_member<'a>(members: DocPairs<'a>, key: &str) -> Option<DocView<'a>>
 
 // Returns the value to which a step leads.
 #[inline(always)]
-fn step_into<'a>(view: DocView<'a>, step: &PointerNode) -> Option<DocView<'a>>
+fn child_at<'a>(view: DocView<'a>, step: &PointerNode) -> Option<DocView<'a>>
     ensures { option_map view_tree result ≡ child (step_of step.now) (view_tree view.entry) }
 {
     match step {
         PointerNode::Key(key) => match view.node() {
-            DocNode::Object(members) => find_member(members, key.as_str()),
+            DocNode::Object(members) => find_packed_member(members, key.as_str()),
             _ => None,
         },
         PointerNode::Index(i) => view.element(*i),
@@ -44,7 +44,7 @@ pub(crate) fn follow<'a>(view: DocView<'a>, path: &[PointerNode]) -> Option<DocV
 {
     let mut here = view;
     for step in path {
-        here = step_into(here, step)?;
+        here = child_at(here, step)?;
     }
     Some(here)
 }

@@ -12,7 +12,7 @@ ghost use Rattle.json_command.specs.Reporting.{ReportsUnlessMuted};
 use crate::{Line, LineError, LineReader};
 use itoa::Buffer;
 use json_doc::DocumentRoom;
-use json_text::{FaultText, Result, Sink, Source, flush_all, put_all};
+use json_io::{FaultText, Result, Sink, Source, flush_all, put_all};
 use std::alloc::Global;
 
 // A line of more bytes is too long.
@@ -42,7 +42,7 @@ pub(crate) trait RowWriter<K: Sink> {
 
 // The state of a run.
 #[derive(Drop)]
-pub(crate) struct Tally {
+pub(crate) struct LineTally {
     // the allocator
     pub(crate) alloc: Global,
     // the number of lines so far
@@ -96,7 +96,7 @@ fn write_both<E: Sink>(errs: &mut E, first: &[u8], second: &[u8]) -> Result<()>
     }
 }
 
-impl Tally {
+impl LineTally {
     ghost use Rattle.json_lines.specs.LineHandling.{HandlesLine, LineFails, LineHas, IsWithinLimit};
 
     // Reports the error of the line of this number, unless a report failed.
@@ -154,12 +154,12 @@ impl Tally {
 }
 
 // Reads and handles one line. Returns false if there is none.
-fn step<R: RowWriter<K>, S: Source, K: Sink, E: Sink>(
+fn handle_next_line<R: RowWriter<K>, S: Source, K: Sink, E: Sink>(
     run: &mut LineRun<'_, R>,
     source: &mut S,
     sink: &mut K,
     errs: &mut E,
-    tally: &mut Tally,
+    tally: &mut LineTally,
 ) -> Result<bool>
     requires few { tally.old.number < u64.MAX }
     requires limit { (line_reader_state run.old.reader).limit ≤ 1048576 }
@@ -204,7 +204,7 @@ fn write_rows<R: RowWriter<K>, S: Source, K: Sink, E: Sink>(
     source: &mut S,
     sink: &mut K,
     errs: &mut E,
-    tally: &mut Tally,
+    tally: &mut LineTally,
 ) -> Result<()>
     requires limit { (line_reader_state run.old.reader).limit ≤ 1048576 }
     requires fresh { IsFreshRun
@@ -228,7 +228,7 @@ fn write_rows<R: RowWriter<K>, S: Source, K: Sink, E: Sink>(
             Ok(()) => {}
             Err(error) => return Err(error),
         }
-        match step(run, source, sink, errs, tally) {
+        match handle_next_line(run, source, sink, errs, tally) {
             Ok(true) => {}
             Ok(false) => return Ok(()),
             Err(error) => return Err(error),
@@ -242,7 +242,7 @@ pub(crate) fn write_all_rows<R: RowWriter<K>, S: Source, K: Sink, E: Sink>(
     source: &mut S,
     sink: &mut K,
     errs: &mut E,
-    tally: &mut Tally,
+    tally: &mut LineTally,
 ) -> Result<()>
     requires { IsNewTally tally.old }
     ensures ok { OnOk result (WritesAllRows (HasWithin 1048576 (R.has_outcome rows.now))

@@ -17,15 +17,15 @@ use crate::cells::{write_bytes, write_next_cell};
 use crate::paths::follow;
 use crate::run::RowWriter;
 use json_doc::{Doc, DocView, DocumentRoom};
-use json_print::BufferedWriter;
-use json_text::{
-    Error, ErrorCode, FaultText, Place, Result, Rules, Sink, check_utf8, fault_text, ws_run,
-};
+use json_io::{Error, ErrorCode, FaultText, Place, Result, Sink, check_utf8, fault_text};
+use json_layout::BufferedWriter;
+use json_scan::ws_run;
+use json_text::Rules;
 use json_value::Path;
 
 // Which values a cell shows.
 #[derive(Clone, Copy)]
-pub(crate) enum Kind {
+pub(crate) enum ColumnKind {
     Text,
     Int,
     Bool,
@@ -36,7 +36,7 @@ pub(crate) enum Kind {
 #[derive(Drop)]
 pub(crate) struct Column {
     pub(crate) path: Path,
-    pub(crate) kind: Kind,
+    pub(crate) kind: ColumnKind,
 }
 
 // The columns, and a path: a line has a row only where this path leads to a value.

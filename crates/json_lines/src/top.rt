@@ -13,12 +13,12 @@ ghost use Rattle.json_command.specs.Reporting.{Reports};
 ghost use Rattle.json_io.specs.FaultText.{text_of};
 ghost use Rattle.json_command.specs.Statuses.{ReturnsReadStatus, ReturnsWriteStatus, MeansReadFailed, MeansWriteFailed};
 
-use crate::asked::asked;
-use crate::run::{Tally, write_all_rows};
+use crate::asked::requested_table;
+use crate::run::{LineTally, write_all_rows};
 use crate::table::Table;
 use json_command::{Status, report};
-use json_print::{Buffer, BufferedWriter};
-use json_text::{Error, ErrorCode, LentSink, Place, Result, Sink, Source, Words};
+use json_io::{Error, ErrorCode, LentSink, Place, Result, Sink, Source, Words};
+use json_layout::{BufferedWriter, WriteBuffer};
 use std::alloc::Global;
 
 // Writes the rows of all lines, through a buffer.
@@ -27,7 +27,7 @@ fn write_table<S: Source, K: Sink, E: Sink>(
     source: &mut S,
     sink: &mut K,
     errs: &mut E,
-    tally: &mut Tally,
+    tally: &mut LineTally,
 ) -> Result<()>
     requires { IsNewTally tally.old }
     ensures ok { OnOk result (WritesAllRows
@@ -39,7 +39,7 @@ fn write_table<S: Source, K: Sink, E: Sink>(
         (streams (S.state source.old) (K.state sink.old) (E.state errs.old))
         (streams (S.state source.new) (K.state sink.new) (E.state errs.new)) tally.new e) }
 {
-    let buffer = Buffer::new(tally.alloc)?;
+    let buffer = WriteBuffer::new(tally.alloc)?;
     let mut writer = BufferedWriter::with_buffer(buffer, LentSink::new(sink));
     let outcome = write_all_rows(table, source, &mut writer, errs, tally);
     let _sink = writer.into_inner().into_inner();
@@ -86,12 +86,12 @@ fn run_table<S: Source, K: Sink, E: Sink>(
     sink: &mut K,
     errs: &mut E,
 ) -> u8
-    ensures { (words : List (List ℕ)) → AsksForColumns words (table_command table.now)
-        → RunResult words
+    ensures { (arguments : List (List ℕ)) → AsksForColumns arguments (table_command table.now)
+        → RunResult arguments
         (streams (S.state source.old) (K.state sink.old) (E.state errs.old))
         (streams (S.state source.new) (K.state sink.new) (E.state errs.new)) result }
 {
-    let mut tally = Tally {
+    let mut tally = LineTally {
         alloc,
         number: 0,
         bad: false,
@@ -107,18 +107,18 @@ fn run_table<S: Source, K: Sink, E: Sink>(
 }
 
 // Does all that `run_lines` does.
-fn run_words<S: Source, K: Sink, E: Sink>(
+fn run_arguments<S: Source, K: Sink, E: Sink>(
     alloc: Global,
-    words: &Words,
+    arguments: &Words,
     source: &mut S,
     sink: &mut K,
     errs: &mut E,
 ) -> u8
-    ensures { RunResult words.now
+    ensures { RunResult arguments.now
         (streams (S.state source.old) (K.state sink.old) (E.state errs.old))
         (streams (S.state source.new) (K.state sink.new) (E.state errs.new)) result }
 {
-    match asked(alloc, words) {
+    match requested_table(alloc, arguments) {
         Ok(table) => run_table(alloc, &table, source, sink, errs),
         Err(error) => {
             report(errs, &error);
@@ -129,7 +129,7 @@ fn run_words<S: Source, K: Sink, E: Sink>(
 
 /// Filters JSON Lines: writes a row for each good line of `source`, and the error of each bad line.
 ///
-/// `words` are a columns word and the option `--has=PATH`, which may precede or follow it. The
+/// `arguments` are a columns word and the option `--has=PATH`, which may precede or follow it. The
 /// columns word is a JSON array of 1 to 64 columns `[path, kind]`. A path is an array of keys and
 /// indexes; a kind is one of `"text"`, `"int"`, `"bool"` and `"json"`. A line where the path of
 /// `--has` leads to no value has no row.
@@ -140,7 +140,7 @@ fn run_words<S: Source, K: Sink, E: Sink>(
 /// text (RFC 8259) of at most 254 levels in UTF-8; `errs` gets its number, counted from 1, and its
 /// error.
 ///
-/// Returns the status: 0 if all lines are good, 1 if some line is bad, 2 if `words` are others,
+/// Returns the status: 0 if all lines are good, 1 if some line is bad, 2 if `arguments` are others,
 /// 4 if reading failed, 5 if writing failed, 6 if memory ran out, and 7 if the source has more than
 /// 4,294,967,295 bytes. After 4, 5, 6 and 7 `sink` has a prefix of the rows, and `errs` a prefix of
 /// the errors and then the error of the run.
@@ -149,18 +149,18 @@ fn run_words<S: Source, K: Sink, E: Sink>(
 /// use json_lines::run_lines;
 /// use json_text::{SliceSource, VecSink, Words};
 ///
-/// let mut words = Words::new(alloc);
-/// words.push("[[[\"id\"],\"int\"],[[\"name\"],\"text\"]]")?;
+/// let mut arguments = Words::new(alloc);
+/// arguments.push("[[[\"id\"],\"int\"],[[\"name\"],\"text\"]]")?;
 /// let mut source = SliceSource::new(b"{\"id\":1,\"name\":\"Ada\"}\n{\"id\":2}\n");
 /// let mut sink = VecSink::new(alloc);
 /// let mut errs = VecSink::new(alloc);
-/// let status = run_lines(alloc, &words, &mut source, &mut sink, &mut errs);
+/// let status = run_lines(alloc, &arguments, &mut source, &mut sink, &mut errs);
 /// assert_eq!(rt; status, 0);
 /// assert_eq!(rt; sink.as_slice(), b"1\t\"Ada\"\n2\t-\n".as_slice());
 /// ```
 pub fn run_lines<S: Source, K: Sink, E: Sink>(
     alloc: Global,
-    words: &Words,
+    arguments: &Words,
     source: &mut S,
     sink: &mut K,
     errs: &mut E,
@@ -168,18 +168,18 @@ pub fn run_lines<S: Source, K: Sink, E: Sink>(
     ensures read { result < 2 → ReadsAll
         (streams (S.state source.old) (K.state sink.old) (E.state errs.old))
         (streams (S.state source.new) (K.state sink.new) (E.state errs.new)) }
-    ensures rows { result < 2 → AppendsRows words.now
+    ensures rows { result < 2 → AppendsRows arguments.now
         (streams (S.state source.old) (K.state sink.old) (E.state errs.old))
         (streams (S.state source.new) (K.state sink.new) (E.state errs.new)) }
-    ensures errors { result < 2 → TellsErrors words.now
+    ensures errors { result < 2 → TellsErrors arguments.now
         (streams (S.state source.old) (K.state sink.old) (E.state errs.old))
         (streams (S.state source.new) (K.state sink.new) (E.state errs.new)) }
-    ensures bad { result < 2 → StatusTellsBad words.now
+    ensures bad { result < 2 → StatusTellsBad arguments.now
         (streams (S.state source.old) (K.state sink.old) (E.state errs.old)) result }
-    ensures words { result ≡ 2 → RefusesWords words.now
+    ensures arguments { result ≡ 2 → RefusesWords arguments.now
         (streams (S.state source.old) (K.state sink.old) (E.state errs.old))
         (streams (S.state source.new) (K.state sink.new) (E.state errs.new)) }
-    ensures failed { 2 < result → FailsRun words.now
+    ensures failed { 2 < result → FailsRun arguments.now
         (streams (S.state source.old) (K.state sink.old) (E.state errs.old))
         (streams (S.state source.new) (K.state sink.new) (E.state errs.new)) result }
     ensures known { (result ≤ 7) × (result ≢ 3) }
@@ -188,13 +188,13 @@ pub fn run_lines<S: Source, K: Sink, E: Sink>(
     ensures large { result ≡ 7 → (bytes : List ℕ)
         × GivesBytes (S.state source.old) (S.state source.new) bytes
         × (max_bytes < length bytes) }
-    ensures read_told { ReturnsReadStatus (S.state source.old) (S.state source.new) result }
-    ensures write_told { ReturnsWriteStatus (K.state sink.old) (K.state sink.new) result }
-    ensures unasked { ¬ (IsLinesRequest words.now) → (result ≡ 2) ⊎ (result ≡ 6) }
-    ensures complete { NothingFails words.now
+    ensures read_error { ReturnsReadStatus (S.state source.old) (S.state source.new) result }
+    ensures write_error { ReturnsWriteStatus (K.state sink.old) (K.state sink.new) result }
+    ensures unasked { ¬ (IsLinesRequest arguments.now) → (result ≡ 2) ⊎ (result ≡ 6) }
+    ensures complete { NothingFails arguments.now
         (streams (S.state source.old) (K.state sink.old) (E.state errs.old))
         (streams (S.state source.new) (K.state sink.new) (E.state errs.new))
         → (result < 2) ⊎ (result ≡ 6) }
 {
-    run_words(alloc, words, source, sink, errs)
+    run_arguments(alloc, arguments, source, sink, errs)
 }

@@ -3,9 +3,9 @@ use Rattle.std.proofs.Common.{◌≡◌, ◌≢◌, ℕ, zero, suc, List, [], �
 use Rattle.std.specs.Option.{option_and_then}
 use Rattle.json_grammar.specs.Tree.{Tree, list, pairs, Trees, no_trees, tree_and, trees_list, Pairs, no_pairs, pair_and}
 use Rattle.json_model.specs.Sort.{values_of}
-use Rattle.json_model.specs.Edit.{Step, key_step, index_step, set_at, insert_at, push_at, remove_at, Changed, Refusal, not_found, type_unmatched, within, at_key, at_index, at_path, on_pairs, on_list, inserted, pushed, removed}
+use Rattle.json_model.specs.Edit.{Step, key_step, index_step, set_at, insert_at, push_at, remove_at, Changed, EditRefusal, not_found, type_unmatched, within, at_key, at_index, at_path, on_pairs, on_list, inserted, pushed, removed}
 use Rattle.json_model.specs.Places.{part_of, part_at}
-use Rattle.json_model.specs.Laws.{ChangesThere, NothingThere, ElseStays, ElseStaysBehindChange}
+use Rattle.json_model.specs.Laws.{ChangesThere, NothingThere, ElseStays, ElseStaysAfterChange}
 use Rattle.json_model.proofs.Members.{values_of-inserted, other_values}
 
 same_some : {A : Type 0} {x y : A} → Some x ≡ Some y → x ≡ y
@@ -17,7 +17,7 @@ none_some e = cc
 same_ok : {A : Type 0} {x y : A} → ◌≡◌ {A = Changed A} (Ok x) (Ok y) → x ≡ y
 same_ok e = cc
 
-err_ok : {A : Type 0} {e : Refusal} {x : A} → ◌≡◌ {A = Changed A} (Err e) (Ok x) → ⊥
+err_ok : {A : Type 0} {e : EditRefusal} {x : A} → ◌≡◌ {A = Changed A} (Err e) (Ok x) → ⊥
 err_ok e = cc
 
 -- ---- elements
@@ -103,7 +103,7 @@ part_changed (index_step i) p f (list ts) u h = ap (within list) (element_change
     twice (Err e) = refl
 part_changed s p f t u h = absurd (none_some h)
 
-no_part : (s : Step) (t : Tree) → part_of s t ≡ None → (e : Refusal) × ((p : List Step) (f : Tree → Changed Tree) → at_path (s ∷ p) f t ≡ Err e)
+no_part : (s : Step) (t : Tree) → part_of s t ≡ None → (e : EditRefusal) × ((p : List Step) (f : Tree → Changed Tree) → at_path (s ∷ p) f t ≡ Err e)
 no_part (key_step k) (pairs ps) h = (not_found, λ p f. ap (within pairs) (no_member k (at_path p f) ps h))
 no_part (index_step i) (list ts) h = (not_found, λ p f. ap (within list) (no_element i (at_path p f) ts h))
 no_part (key_step k) t h = (type_unmatched, λ p f. refl)
@@ -127,7 +127,7 @@ other_part s r t w h = refl
 
 -- the change is one of u, at the end of the path
 abbrev There : List Step → (Tree → Changed Tree) → Tree → Tree → Type 0
-There p f t u = ((v : Tree) → f u ≡ Ok v → (t' : Tree) × (at_path p f t ≡ Ok t') × (part_at p t' ≡ Some v)) × ((e : Refusal) → f u ≡ Err e → at_path p f t ≡ Err e)
+There p f t u = ((v : Tree) → f u ≡ Ok v → (t' : Tree) × (at_path p f t ≡ Ok t') × (part_at p t' ≡ Some v)) × ((e : EditRefusal) → f u ≡ Err e → at_path p f t ≡ Err e)
 
 pub changes_there : ChangesThere
 changes_there [] f t u h = let e : t ≡ u = same_some h in ((λ v k. (v, ap f e ∙ k, refl)), (λ r k. ap f e ∙ k))
@@ -146,7 +146,7 @@ changes_there (s ∷ p) f t u h = by (part_of s t) refl (λ x. changes_there p f
 
 -- each change there is refused, and each by one refusal
 abbrev Refused : List Step → Tree → Type 0
-Refused p t = (e : Refusal) × ((f : Tree → Changed Tree) → at_path p f t ≡ Err e)
+Refused p t = (e : EditRefusal) × ((f : Tree → Changed Tree) → at_path p f t ≡ Err e)
 
 pub nothing_there : NothingThere
 nothing_there [] t h = absurd (none_some (sym h))
@@ -187,17 +187,17 @@ else_along (d ∷ c) s r p q f t t' h n = by (stepped d (c ++ s ∷ p) f t t' h)
     by (x, y, g, k, e) i =
         ap (option_and_then (part_at (c ++ r ∷ q))) (ap (part_of d) e ∙ part_there d t x y g) ∙ i x y k ∙ sym (ap (option_and_then (part_at (c ++ r ∷ q))) g)
 
-pub else_stays_behind_change : ElseStaysBehindChange
-else_stays_behind_change p q f t t' h a =
+pub else_stays_after_change : ElseStaysAfterChange
+else_stays_after_change p q f t t' h a =
     subst (λ q. part_at q t' ≡ part_at q t) (sym a.q_is) (else_along a.common a.step a.other a.rest a.other_rest f t t' (subst (λ p. at_path p f t ≡ Ok t') a.p_is h) a.apart)
 
 -- the answer of one edit is that of its change
-once : (r : Changed Tree) (t' : Tree) → ◌≡◌ {A = Result Tree (ℕ × Refusal)} (elim r [ Ok u ↦ Ok u | Err e ↦ Err (0, e) ]) (Ok t') → r ≡ Ok t'
+once : (r : Changed Tree) (t' : Tree) → ◌≡◌ {A = Result Tree (ℕ × EditRefusal)} (elim r [ Ok u ↦ Ok u | Err e ↦ Err (0, e) ]) (Ok t') → r ≡ Ok t'
 once (Ok u) t' h = cc
 once (Err e) t' h = cc
 
 pub else_stays : ElseStays
-else_stays (set_at p u) t t' q h a = else_stays_behind_change p q (λ _. Ok u) t t' (once _ t' h) a
-else_stays (insert_at p k u) t t' q h a = else_stays_behind_change p q (on_pairs (λ ps. Ok (inserted k u ps))) t t' (once _ t' h) a
-else_stays (push_at p u) t t' q h a = else_stays_behind_change p q (on_list (λ ts. Ok (pushed u ts))) t t' (once _ t' h) a
-else_stays (remove_at p s) t t' q h a = else_stays_behind_change p q (removed s) t t' (once _ t' h) a
+else_stays (set_at p u) t t' q h a = else_stays_after_change p q (λ _. Ok u) t t' (once _ t' h) a
+else_stays (insert_at p k u) t t' q h a = else_stays_after_change p q (on_pairs (λ ps. Ok (inserted k u ps))) t t' (once _ t' h) a
+else_stays (push_at p u) t t' q h a = else_stays_after_change p q (on_list (λ ts. Ok (pushed u ts))) t t' (once _ t' h) a
+else_stays (remove_at p s) t t' q h a = else_stays_after_change p q (removed s) t t' (once _ t' h) a

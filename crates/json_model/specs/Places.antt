@@ -16,7 +16,7 @@ part_at [] t = Some t
 part_at (s ∷ p) t = option_and_then (part_at p) (part_of s t)
 
 -- the paths go the same steps up to one at which they differ
-pub record Parts (p q : List Step) : Type 0 where
+pub record PathsDiverge (p q : List Step) : Type 0 where
   pub common : List Step
   pub step : Step
   pub other : Step

@@ -7,12 +7,12 @@ use Rattle.json_grammar.specs.NumberStates.{at_start, after_minus, no_number, nu
 use Rattle.json_grammar.proofs.NumberRuns.{number_ends, no_number_goes_on}
 use Rattle.json_grammar.proofs.NumberScan.{number_by_state, ended_whole}
 use Rattle.json_text.proofs.WholeNumbers.{zero_ends}
-use Rattle.json_number.specs.Tests.{is_number}
+use Rattle.json_number.specs.Tests.{is_number_text}
 
-pub number_from_test : (l : List ℕ) → is_number l ≡ true → number l
+pub number_from_test : (l : List ℕ) → is_number_text l ≡ true → number l
 number_from_test l h = number_by_state l h
 
-pub test_from_number : (l : List ℕ) → number l → is_number l ≡ true
+pub test_from_number : (l : List ℕ) → number l → is_number_text l ≡ true
 test_from_number l n = ended_whole _ (number_ends l n)
 
 -- no number begins with a plus

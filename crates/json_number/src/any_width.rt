@@ -95,7 +95,7 @@ fn plain_integer(digits: &str) -> IntegerLiteral
 
 /// Returns the integer of the same digits after a minus.
 #[inline(always)]
-fn negated(integer: IntegerLiteral) -> IntegerLiteral
+fn negated_literal(integer: IntegerLiteral) -> IntegerLiteral
     ensures { (d : List ℕ) → IsIntegerLiteral (plain_of d) integer
         → IsIntegerLiteral (below_of d) result }
 {
@@ -113,7 +113,7 @@ fn negative_integer(literal: &str) -> IntegerLiteral
     requires { slice_index literal.now 0 ≡ 45 }
     ensures { IsIntegerLiteral (whole_in literal.now) result }
 {
-    negated(plain_integer(&literal[1..]))
+    negated_literal(plain_integer(&literal[1..]))
 }
 
 /// Returns the integer that a number's literal denotes, of any width: `NotInteger` for `-0`, for a

@@ -6,7 +6,7 @@ ghost use Rattle.json_number.specs.Laws.{PrintsItsLiteral, ReadsBack, ValueInRan
 
 use crate::json_number_trait::JsonNumberTrait;
 use crate::raw_number::RawNumber;
-use json_text::Result;
+use json_io::Result;
 use std::alloc::Global;
 
 /// An integer by value prints the literal that it was read from.

@@ -11,12 +11,13 @@ ghost use Rattle.json_io.specs.Errors.{no_memory, OnlyNoMemory};
 ghost use Rattle.json_number.specs.Errors.{invalid_number};
 ghost use Rattle.json_number.specs.Floats.{float_in, if_finite, nearest_float};
 ghost use Rattle.json_number.specs.Integers.{integer_in};
-ghost use Rattle.json_number.specs.Tests.{is_number};
+ghost use Rattle.json_number.specs.Tests.{is_number_text};
 
 use crate::float::f32_of;
 use crate::integer::integer_by_call;
 use crate::number::Number;
-use json_text::{Error, ErrorCode, Place, Result, is_number};
+use json_io::{Error, ErrorCode, Place, Result};
+use json_text::is_number;
 use ryu::Buffer;
 use std::alloc::Global;
 
@@ -34,7 +35,7 @@ use std::alloc::Global;
 #[derive(Debug, Drop)]
 pub struct RawNumber {
     literal: String,
-    ghost is_literal: { is_number (string_bytes literal) ≡ true },
+    ghost is_literal: { is_number_text (string_bytes literal) ≡ true },
 }
 
 impl RawNumber {

@@ -4,7 +4,7 @@ use Rattle.std.specs.List.{insert}
 use Rattle.std.proofs.lemmas.List.{map-append, take-map, drop-map}
 use Rattle.std.specs.Result.{result_ok}
 use Rattle.json_grammar.specs.Tree.{Tree, pairs, tree_and, list_trees, list_pairs}
-use Rattle.json_model.specs.Edit.{Step, remove_at, Changed, Refusal, within, at_path, edited_once, inserted, not_found, and_then}
+use Rattle.json_model.specs.Edit.{Step, remove_at, Changed, EditRefusal, within, at_path, edited_once, inserted, not_found, and_then}
 use Rattle.json_value.specs.Denotes.{tree_of, pairs_in}
 use Rattle.json_value.specs.declared.container.Container.{Container}
 use Rattle.json_value.specs.declared.pair.Keyed.{Keyed}
@@ -47,7 +47,7 @@ insert-map f xs i x =
 pub added_below : (p : List ReferenceToken) (k : ReferenceToken) (u t : Tree) (q : List Step) → path_of_tokens p t ≡ Ok q → added_at (p ++ (k ∷ [])) u t ≡ at_path q (with_child k u) t
 added_below p k u t q e = added_at-append p k u t ∙ ap (λ r. and_then r (λ a. at_path a (with_child k u) t)) e
 
-pub added_nowhere : (p : List ReferenceToken) (k : ReferenceToken) (u t : Tree) (e : Refusal) → path_of_tokens p t ≡ Err e → added_at (p ++ (k ∷ [])) u t ≡ Err e
+pub added_nowhere : (p : List ReferenceToken) (k : ReferenceToken) (u t : Tree) (e : EditRefusal) → path_of_tokens p t ≡ Err e → added_at (p ++ (k ∷ [])) u t ≡ Err e
 added_nowhere p k u t r e = added_at-append p k u t ∙ ap (λ s. and_then s (λ a. at_path a (with_child k u) t)) e
 
 outcome_ok : (r : Changed Tree) (c : Tree) → result_ok r ≡ Some c → r ≡ Ok c
@@ -67,7 +67,7 @@ removed_below p k t c q s e h f =
     ∙ ap (λ r. and_then (and_then r (λ d. within (λ b. remove_at q b) (step_of_token k d))) (λ d. edited_once d t)) h
     ∙ ap (λ r. and_then (within (λ b. remove_at q b) r) (λ d. edited_once d t)) f
 
-pub removed_nowhere : (p : List ReferenceToken) (k : ReferenceToken) (t : Tree) (e : Refusal) → path_of_tokens p t ≡ Err e → removed_at (p ++ (k ∷ [])) t ≡ Err e
+pub removed_nowhere : (p : List ReferenceToken) (k : ReferenceToken) (t : Tree) (e : EditRefusal) → path_of_tokens p t ≡ Err e → removed_at (p ++ (k ∷ [])) t ≡ Err e
 removed_nowhere p k t r e = removed_at-append p k t ∙ ap (λ s. and_then s (λ a. and_then (removal_edit a k t) (λ d. edited_once d t))) e
 
 value_at_pointer-append : (p q : List ReferenceToken) (t : Tree) → value_at_pointer (p ++ q) t ≡ and_then (value_at_pointer p t) (value_at_pointer q)
@@ -78,7 +78,7 @@ value_at_pointer-append (k ∷ p) q t = value_at_pointer-cons k (p ++ q) t ∙ b
     by (Ok u) h = h u
     by (Err e) h = refl
 
-value_at_pointer-last : (p : List ReferenceToken) (k : ReferenceToken) (t c : Tree) (q : List Step) (e : Refusal) → path_of_tokens p t ≡ Ok q → value_at_path q t ≡ Ok c → value_at_token k c ≡ Err e → value_at_pointer (p ++ (k ∷ [])) t ≡ Err e
+value_at_pointer-last : (p : List ReferenceToken) (k : ReferenceToken) (t c : Tree) (q : List Step) (e : EditRefusal) → path_of_tokens p t ≡ Ok q → value_at_path q t ≡ Ok c → value_at_token k c ≡ Err e → value_at_pointer (p ++ (k ∷ [])) t ≡ Err e
 value_at_pointer-last p k t c q e f h g =
     let here : value_at_pointer p t ≡ Ok c = ap (λ r. and_then r (λ a. value_at_path a t)) f ∙ h in
     value_at_pointer-append p (k ∷ []) t ∙ ap (λ r. and_then r (value_at_pointer (k ∷ []))) here ∙ value_at_pointer-cons k [] c ∙ ap (λ r. and_then r (value_at_pointer [])) g
@@ -89,7 +89,7 @@ Alike (Ok c) r = (w : Tree) × (r ≡ Ok w)
 Alike (Err e) r = r ≡ Err e
 
 -- what does not exist cannot be removed
-pub removed_absent : (p : List ReferenceToken) (k : ReferenceToken) (t c : Tree) (q : List Step) (e : Refusal) → path_of_tokens p t ≡ Ok q → value_at_path q t ≡ Ok c → value_at_token k c ≡ Err e → removed_at (p ++ (k ∷ [])) t ≡ Err e
+pub removed_absent : (p : List ReferenceToken) (k : ReferenceToken) (t c : Tree) (q : List Step) (e : EditRefusal) → path_of_tokens p t ≡ Ok q → value_at_path q t ≡ Ok c → value_at_token k c ≡ Err e → removed_at (p ++ (k ∷ [])) t ≡ Err e
 removed_absent [] k t c q e f h g = subst (λ r. Alike r (removed_at (k ∷ []) t)) (value_at_pointer-last [] k t c q e f h g) (removed_alike_all k [] t)
 removed_absent (j ∷ p) k t c q e f h g = subst (λ r. Alike r (removed_at (j ∷ (p ++ (k ∷ []))) t)) (value_at_pointer-last (j ∷ p) k t c q e f h g) (removed_alike_all j (p ++ (k ∷ [])) t)
 

@@ -10,7 +10,7 @@ mod ValueAtPath
 mod PointerParsing
 mod PointerWriting
 mod Lookups
-mod PointerSights
+mod PointerTargets
 mod Errors
 mod Changes
 mod Members

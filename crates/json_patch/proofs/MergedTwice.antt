@@ -95,12 +95,12 @@ null_parts v qs h = by (is_null v) h
 step_value : (vs : List Tree) (v : Tree) → is_null v ≡ false → step vs v ≡ merge_patched (tree_or_null (first_in vs)) v ∷ drop 1 vs
 step_value vs v e = ap (λ b. cond b [] (merge_patched (tree_or_null (first_in vs)) v ∷ drop 1 vs)) e
 
-run_behind : (x : Tree) (tl qs : List Tree) → has_null qs ≡ false → run (x ∷ tl) qs ≡ onto x qs ∷ tl
-run_behind x tl [] h = refl
-run_behind x tl (v ∷ qs) h = let a = null_parts v qs h in ap (λ vs. run vs qs) (step_value (x ∷ tl) v a.0) ∙ run_behind (merge_patched x v) tl qs a.1
+run_after : (x : Tree) (tl qs : List Tree) → has_null qs ≡ false → run (x ∷ tl) qs ≡ onto x qs ∷ tl
+run_after x tl [] h = refl
+run_after x tl (v ∷ qs) h = let a = null_parts v qs h in ap (λ vs. run vs qs) (step_value (x ∷ tl) v a.0) ∙ run_after (merge_patched x v) tl qs a.1
 
 run_value : (vs : List Tree) (v : Tree) (qs : List Tree) → has_null (v ∷ qs) ≡ false → run vs (v ∷ qs) ≡ onto (tree_or_null (first_in vs)) (v ∷ qs) ∷ drop 1 vs
-run_value vs v qs h = let a = null_parts v qs h in ap (λ vs. run vs qs) (step_value vs v a.0) ∙ run_behind (merge_patched (tree_or_null (first_in vs)) v) (drop 1 vs) qs a.1
+run_value vs v qs h = let a = null_parts v qs h in ap (λ vs. run vs qs) (step_value vs v a.0) ∙ run_after (merge_patched (tree_or_null (first_in vs)) v) (drop 1 vs) qs a.1
 
 -- ---- values that are objects are one object
 

@@ -4,11 +4,11 @@ use Rattle.std.specs.Prelude.{ok_or, option_map, slice_get}
 use Rattle.std.proofs.lemmas.Bool.{and_parts, and_from}
 use Rattle.std.proofs.lemmas.Slice.Eq.{bytes_eq-Decides}
 use Rattle.json_grammar.specs.Tree.{Tree, null, boolean, num, text, list, pairs, Trees, no_trees, tree_and, trees_list, Pairs, no_pairs, pair_and}
-use Rattle.json_model.specs.Edit.{Step, key_step, index_step, set_at, remove_at, Changed, Refusal, not_found, within, on_pairs, on_list, at_path, inserted, pushed, without_key, has_key, without_index, removed, edited_once, and_then}
+use Rattle.json_model.specs.Edit.{Step, key_step, index_step, set_at, remove_at, Changed, EditRefusal, not_found, within, on_pairs, on_list, at_path, inserted, pushed, without_key, has_key, without_index, removed, edited_once, and_then}
 use Rattle.json_model.specs.Same.{first_value}
 use Rattle.json_patch.specs.ValuesAt.{value_at_step, value_at_path}
 use Rattle.json_patch.specs.Pointer.{ReferenceToken, index_of_token, step_of_token, path_of_tokens, value_at_pointer}
-use Rattle.json_patch.specs.Patch.{add, remove, lookup_failed, split_last, insert_before, insert_at_index, with_child, added_at, removal_edit, removed_at, tokens_eq, lookup_outcome, applied}
+use Rattle.json_patch.specs.Patch.{add_at, remove, lookup_failed, split_last, insert_before, insert_at_index, with_child, added_at, removal_edit, removed_at, tokens_eq, lookup_outcome, applied}
 use Rattle.json_patch.specs.Laws.{AddIsInsert, AddIsPush, RemoveIsRemove, ReplaceIsSet, CopyIsAdd, MoveIsRemoveAndAdd, MoveToItself, AddThenRemoveMember, AddThenRemoveElement, RemovesWhatExists, then_applied, FirstTokenThenRest, TokensArePath, AddAtRoot}
 use Rattle.json_patch.proofs.Results.{no_ok, then_parts}
 use Rattle.json_patch.proofs.ReplacedAt.{replaced_at_path, at_path-replaced, value_at_replaced, replaced_by_same, replaced_twice, change_at_path}
@@ -106,7 +106,7 @@ pub move_is_remove_and_add : MoveIsRemoveAndAdd
 move_is_remove_and_add q p t u n h =
     ap (λ r. lookup_outcome (and_then r (moved (tokens_eq q p) q p t))) h ∙ ap (λ b. lookup_outcome (moved b q p t u)) (tokens_other q p n) ∙ by (removed_at q t)
   where
-    by : (r : Changed Tree) → lookup_outcome (and_then r (added_at p u)) ≡ then_applied (lookup_outcome r) (add p u)
+    by : (r : Changed Tree) → lookup_outcome (and_then r (added_at p u)) ≡ then_applied (lookup_outcome r) (add_at p u)
     by (Ok w) = refl
     by (Err e) = refl
 
@@ -114,7 +114,7 @@ move_is_remove_and_add q p t u n h =
 
 added_then_removed : (p : List ReferenceToken) (k : ReferenceToken) (u t : Tree) (q : List Step) (c n : Tree) (s : Step)
     → path_of_tokens p t ≡ Ok q → value_at_path q t ≡ Ok c → with_child k u c ≡ Ok n → step_of_token k n ≡ Ok s → removed s n ≡ Ok c
-    → (w : Tree) × (applied (add (p ++ k ∷ []) u) t ≡ Ok w) × (applied (remove (p ++ k ∷ [])) w ≡ Ok t)
+    → (w : Tree) × (applied (add_at (p ++ k ∷ []) u) t ≡ Ok w) × (applied (remove (p ++ k ∷ [])) w ≡ Ok t)
 added_then_removed p k u t q c n s e h a g d = (
   replaced_at_path q n t,
   ap lookup_outcome (added_at-append p k u t ∙ ap (λ r. and_then r (λ q. at_path q (with_child k u) t)) e ∙ change_at_path q (with_child k u) t c n h a),
@@ -336,7 +336,7 @@ removes_what_exists k p t = (or_not_found, missed)
     or_not_found : (u : Tree) → value_at_pointer (k ∷ p) t ≡ Ok u → (w : Tree) × (applied (remove (k ∷ p)) t ≡ Ok w)
     or_not_found u h = let a = subst (λ r. Alike r (removed_at (k ∷ p) t)) h (removed_alike_all k p t) in (a.0, ap lookup_outcome a.1)
 
-    missed : (r : Refusal) → value_at_pointer (k ∷ p) t ≡ Err r → applied (remove (k ∷ p)) t ≡ Err (lookup_failed r)
+    missed : (r : EditRefusal) → value_at_pointer (k ∷ p) t ≡ Err r → applied (remove (k ∷ p)) t ≡ Err (lookup_failed r)
     missed r h = ap lookup_outcome (subst (λ s. Alike s (removed_at (k ∷ p) t)) h (removed_alike_all k p t))
 
 -- ---- what tokens reference
@@ -347,15 +347,15 @@ first_token_then_rest k p t = value_at_pointer-step k p t
 pub add_at_root : AddAtRoot
 add_at_root u t = refl
 
-ok_err : (c : Tree) (r : Refusal) → ◌≡◌ {A = Changed Tree} (Ok c) (Err r) → ⊥
+ok_err : (c : Tree) (r : EditRefusal) → ◌≡◌ {A = Changed Tree} (Ok c) (Err r) → ⊥
 ok_err c r e = cc
 
-err_err : (e r : Refusal) → ◌≡◌ {A = Changed Tree} (Err e) (Err r) → e ≡ r
+err_err : (e r : EditRefusal) → ◌≡◌ {A = Changed Tree} (Err e) (Err r) → e ≡ r
 err_err e r h = cc
 
 pub tokens_are_path : TokensArePath
 tokens_are_path p t = (λ c h. pointed_parts p t c h, λ r h. missed r (path_of_tokens p t) refl h)
   where
-    missed : (r : Refusal) (q : Changed (List Step)) → path_of_tokens p t ≡ q → and_then q (λ q. value_at_path q t) ≡ Err r → q ≡ Err r
+    missed : (r : EditRefusal) (q : Changed (List Step)) → path_of_tokens p t ≡ q → and_then q (λ q. value_at_path q t) ≡ Err r → q ≡ Err r
     missed r (Ok q) e h = let a = path_leads p t q e in absurd (ok_err a.0 r (sym a.1 ∙ h))
     missed r (Err f) e h = ap Err (err_err f r h)

@@ -4,20 +4,20 @@ use Rattle.json_grammar.specs.Tree.{Tree, trees_list, list_trees}
 use Rattle.json_patch.specs.Patch.{Operation, PatchFailure, bad_patch, operation_of, operations_from, applied, applied_from}
 use Rattle.json_patch.specs.Laws.{then_applied_from, AppliedInTurn, AreOperations, PatchAppliesOperations, FirstBadOperationIsNamed}
 
-behind : (n m : ℕ) → suc n + m ≡ n + suc m
-behind n m = omega arith
+after : (n m : ℕ) → suc n + m ≡ n + suc m
+after n m = omega arith
 
-none_behind : (n : ℕ) → n + 0 ≡ n
-none_behind n = omega arith
+none_after : (n : ℕ) → n + 0 ≡ n
+none_after n = omega arith
 
 pub applied_in_turn : AppliedInTurn
-applied_in_turn n [] ps t = ap (λ m. applied_from m ps t) (sym (none_behind n))
+applied_in_turn n [] ps t = ap (λ m. applied_from m ps t) (sym (none_after n))
 applied_in_turn n (o ∷ os) ps t = by (applied o t) (λ u. applied_in_turn (suc n) os ps u)
   where
     by : (r : Result Tree PatchFailure) → ((u : Tree) → applied_from (suc n) (os ++ ps) u ≡ then_applied_from (applied_from (suc n) os u) (suc n + length os) ps)
         → elim r as (λ _. Result Tree (PatchFailure × Option ℕ)) [ Ok u ↦ applied_from (suc n) (os ++ ps) u | Err e ↦ Err (e, Some n) ]
         ≡ then_applied_from (elim r as (λ _. Result Tree (PatchFailure × Option ℕ)) [ Ok u ↦ applied_from (suc n) os u | Err e ↦ Err (e, Some n) ]) (n + suc (length os)) ps
-    by (Ok u) h = h u ∙ ap (λ m. then_applied_from (applied_from (suc n) os u) m ps) (behind n (length os))
+    by (Ok u) h = h u ∙ ap (λ m. then_applied_from (applied_from (suc n) os u) m ps) (after n (length os))
     by (Err e) h = refl
 
 listed : (ts : List Tree) → trees_list (list_trees ts) ≡ ts
@@ -50,12 +50,12 @@ good n (t ∷ ts) (o ∷ os) h =
     ∙ ap (before n (Some o)) (good (suc n) ts os (same_tail (operation_of t) (Some o) (map operation_of ts) (map Some os) h))
 
 bad : (n : ℕ) (ts : List Tree) (os : List Operation) (u : Tree) (us : List Tree) → AreOperations ts os → operation_of u ≡ None → operations_from n (ts ++ u ∷ us) ≡ Err (n + length ts)
-bad n [] os u us h e = ap (λ o. before n o (operations_from (suc n) us)) e ∙ ap Err (sym (none_behind n))
+bad n [] os u us h e = ap (λ o. before n o (operations_from (suc n) us)) e ∙ ap Err (sym (none_after n))
 bad n (t ∷ ts) [] u us h e = absurd (cons_nil (operation_of t) (map operation_of ts) h)
 bad n (t ∷ ts) (o ∷ os) u us h e =
     ap (λ o. before n o (operations_from (suc n) (ts ++ u ∷ us))) (same_head (operation_of t) (Some o) (map operation_of ts) (map Some os) h)
     ∙ ap (before n (Some o)) (bad (suc n) ts os u us (same_tail (operation_of t) (Some o) (map operation_of ts) (map Some os) h) e)
-    ∙ ap Err (behind n (length ts))
+    ∙ ap Err (after n (length ts))
 
 -- what is made of the operations that were read
 abbrev made : Tree → Result (List Operation) ℕ → Result Tree (PatchFailure × Option ℕ)

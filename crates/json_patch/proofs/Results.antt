@@ -1,11 +1,11 @@
 -- Changes one after another, taken apart.
 use Rattle.std.proofs.Common.{◌≡◌, Ok, Err, refl}
-use Rattle.json_model.specs.Edit.{Changed, Refusal, within, and_then}
+use Rattle.json_model.specs.Edit.{Changed, EditRefusal, within, and_then}
 
 pub same_ok : {A : Type 0} (x y : A) → ◌≡◌ {A = Changed A} (Ok x) (Ok y) → x ≡ y
 same_ok x y e = cc
 
-pub no_ok : {A : Type 0} (x : A) (r : Refusal) → ◌≡◌ {A = Changed A} (Err r) (Ok x) → ⊥
+pub no_ok : {A : Type 0} (x : A) (r : EditRefusal) → ◌≡◌ {A = Changed A} (Err r) (Ok x) → ⊥
 no_ok x r e = cc
 
 -- what a change was made of

@@ -3,13 +3,13 @@ use Rattle.std.proofs.Common.{◌≡◌, ℕ, List, [], ◌∷◌, Bool, true, f
 use Rattle.std.specs.Prelude.{ok_or, option_map, slice_get}
 use Rattle.std.specs.Result.{result_ok}
 use Rattle.json_grammar.specs.Tree.{Tree, null, boolean, num, text, list, pairs, trees_list, Pairs, no_pairs, pair_and, pairs_list}
-use Rattle.json_model.specs.Edit.{Step, key_step, index_step, Changed, Refusal, not_found, and_then}
+use Rattle.json_model.specs.Edit.{Step, key_step, index_step, Changed, EditRefusal, not_found, and_then}
 use Rattle.json_model.specs.Same.{first_value}
 use Rattle.json_value.specs.Seen.{first_of}
 use Rattle.json_value.specs.Steps.{child, tree_at}
 use Rattle.json_patch.specs.ValuesAt.{value_at_step, value_at_path}
 
-ok_or-result_ok : (o : Option Tree) (r : Refusal) → result_ok (ok_or o r) ≡ o
+ok_or-result_ok : (o : Option Tree) (r : EditRefusal) → result_ok (ok_or o r) ≡ o
 ok_or-result_ok None r = refl
 ok_or-result_ok (Some t) r = refl
 

@@ -2,12 +2,12 @@
 use Rattle.std.specs.Prelude.{◌⊎◌, slice_index, ◌+◌, Option, None, decimal, ◌<◌, ◌^◌, ◌≡◌, ◌≢◌, ℕ, ◌≤◌, true, false, codes, List, [], ◌∷◌, ◌++◌, length, map, Result, Ok, Err, Some}
 use Rattle.std.specs.Str.Parse.{IsNumeral, digits_value}
 use Rattle.json_grammar.specs.Tree.{Tree, null, boolean, num, text, list, pairs, Trees, trees_list, list_trees, Pairs, no_pairs, pair_and}
-use Rattle.json_model.specs.Edit.{Step, set_at, insert_at, push_at, remove_at, Refusal, has_key, edited_once, and_then}
+use Rattle.json_model.specs.Edit.{Step, set_at, insert_at, push_at, remove_at, EditRefusal, has_key, edited_once, and_then}
 use Rattle.json_model.specs.Same.{same}
 use Rattle.json_model.specs.Sort.{values_of}
 use Rattle.json_patch.specs.ValuesAt.{value_at_step, value_at_path}
 use Rattle.json_patch.specs.Pointer.{ReferenceToken, pointer_of, pointer_text, index_of_token, step_of_token, path_of_tokens, value_at_pointer}
-use Rattle.json_patch.specs.Patch.{Operation, add, remove, replace, move, copy, PatchFailure, lookup_failed, bad_patch, operation_of, lookup_outcome, applied, applied_from, patched}
+use Rattle.json_patch.specs.Patch.{Operation, add_at, remove, replace, move, copy, PatchFailure, lookup_failed, bad_patch, operation_of, lookup_outcome, applied, applied_from, patched}
 use Rattle.json_patch.specs.Merge.{merge_patched}
 
 -- ---- pointers (RFC 6901)
@@ -41,28 +41,28 @@ abbrev pub TokensArePath : Type 0
 TokensArePath =
     (p : List ReferenceToken) (t : Tree)
     → ((c : Tree) → value_at_pointer p t ≡ Ok c → (q : List Step) × (path_of_tokens p t ≡ Ok q) × (value_at_path q t ≡ Ok c))
-    × ((r : Refusal) → value_at_pointer p t ≡ Err r → path_of_tokens p t ≡ Err r)
+    × ((r : EditRefusal) → value_at_pointer p t ≡ Err r → path_of_tokens p t ≡ Err r)
 
 -- ---- patches (RFC 6902)
 
--- `add` at the root replaces the whole tree
+-- `add_at` at the root replaces the whole tree
 abbrev pub AddAtRoot : Type 0
-AddAtRoot = (u t : Tree) → applied (add [] u) t ≡ lookup_outcome (edited_once (set_at [] u) t)
+AddAtRoot = (u t : Tree) → applied (add_at [] u) t ≡ lookup_outcome (edited_once (set_at [] u) t)
 
--- `add` inserts into an object, and `add` of `-` pushes onto an array
+-- `add_at` inserts into an object, and `add_at` of `-` pushes onto an array
 abbrev pub AddIsInsert : Type 0
 AddIsInsert =
     (p : List ReferenceToken) (k : ReferenceToken) (u t : Tree) (q : List Step) (ps : Pairs)
     → path_of_tokens p t ≡ Ok q
     → value_at_path q t ≡ Ok (pairs ps)
-    → applied (add (p ++ k ∷ []) u) t ≡ lookup_outcome (edited_once (insert_at q k u) t)
+    → applied (add_at (p ++ k ∷ []) u) t ≡ lookup_outcome (edited_once (insert_at q k u) t)
 
 abbrev pub AddIsPush : Type 0
 AddIsPush =
     (p : List ReferenceToken) (u t : Tree) (q : List Step) (ts : Trees)
     → path_of_tokens p t ≡ Ok q
     → value_at_path q t ≡ Ok (list ts)
-    → applied (add (p ++ codes "-" ∷ []) u) t ≡ lookup_outcome (edited_once (push_at q u) t)
+    → applied (add_at (p ++ codes "-" ∷ []) u) t ≡ lookup_outcome (edited_once (push_at q u) t)
 
 -- `remove` removes the member or element that the last token names
 abbrev pub RemoveIsRemove : Type 0
@@ -79,7 +79,7 @@ ReplaceIsSet = (p : List ReferenceToken) (u t : Tree) (q : List Step) → path_o
 
 -- `copy` adds the value at `from`
 abbrev pub CopyIsAdd : Type 0
-CopyIsAdd = (q p : List ReferenceToken) (t u : Tree) → value_at_pointer q t ≡ Ok u → applied (copy q p) t ≡ applied (add p u) t
+CopyIsAdd = (q p : List ReferenceToken) (t u : Tree) → value_at_pointer q t ≡ Ok u → applied (copy q p) t ≡ applied (add_at p u) t
 
 -- an operation after another
 abbrev pub then_applied : Result Tree PatchFailure → Operation → Result Tree PatchFailure
@@ -89,18 +89,18 @@ then_applied (Err r) o = Err r
 -- `move` removes the value at `from` and adds it at `path`; where the two are equal it changes
 -- nothing
 abbrev pub MoveIsRemoveAndAdd : Type 0
-MoveIsRemoveAndAdd = (q p : List ReferenceToken) (t u : Tree) → q ≢ p → value_at_pointer q t ≡ Ok u → applied (move q p) t ≡ then_applied (applied (remove q) t) (add p u)
+MoveIsRemoveAndAdd = (q p : List ReferenceToken) (t u : Tree) → q ≢ p → value_at_pointer q t ≡ Ok u → applied (move q p) t ≡ then_applied (applied (remove q) t) (add_at p u)
 
 abbrev pub MoveToItself : Type 0
 MoveToItself = (p : List ReferenceToken) (t u : Tree) → value_at_pointer p t ≡ Ok u → applied (move p p) t ≡ Ok t
 
--- `remove` undoes `add` of a new member, and of an element
+-- `remove` undoes `add_at` of a new member, and of an element
 abbrev pub AddThenRemoveMember : Type 0
 AddThenRemoveMember =
     (p : List ReferenceToken) (k : ReferenceToken) (u t : Tree) (ps : Pairs)
     → value_at_pointer p t ≡ Ok (pairs ps)
     → has_key k ps ≡ false
-    → (w : Tree) × (applied (add (p ++ k ∷ []) u) t ≡ Ok w) × (applied (remove (p ++ k ∷ [])) w ≡ Ok t)
+    → (w : Tree) × (applied (add_at (p ++ k ∷ []) u) t ≡ Ok w) × (applied (remove (p ++ k ∷ [])) w ≡ Ok t)
 
 abbrev pub AddThenRemoveElement : Type 0
 AddThenRemoveElement =
@@ -108,7 +108,7 @@ AddThenRemoveElement =
     → value_at_pointer p t ≡ Ok (list ts)
     → index_of_token k ≡ Some i
     → i ≤ length (trees_list ts)
-    → (w : Tree) × (applied (add (p ++ k ∷ []) u) t ≡ Ok w) × (applied (remove (p ++ k ∷ [])) w ≡ Ok t)
+    → (w : Tree) × (applied (add_at (p ++ k ∷ []) u) t ≡ Ok w) × (applied (remove (p ++ k ∷ [])) w ≡ Ok t)
 
 -- a value below the root that exists can be removed; `remove` of any other fails as following the
 -- pointer does
@@ -116,7 +116,7 @@ abbrev pub RemovesWhatExists : Type 0
 RemovesWhatExists =
     (k : ReferenceToken) (p : List ReferenceToken) (t : Tree)
     → ((u : Tree) → value_at_pointer (k ∷ p) t ≡ Ok u → (w : Tree) × (applied (remove (k ∷ p)) t ≡ Ok w))
-    × ((r : Refusal) → value_at_pointer (k ∷ p) t ≡ Err r → applied (remove (k ∷ p)) t ≡ Err (lookup_failed r))
+    × ((r : EditRefusal) → value_at_pointer (k ∷ p) t ≡ Err r → applied (remove (k ∷ p)) t ≡ Err (lookup_failed r))
 
 -- the trees are the operations
 abbrev pub AreOperations : List Tree → List Operation → Type 0

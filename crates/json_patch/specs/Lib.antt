@@ -8,7 +8,7 @@ pub mod PointerExamples
 pub mod PatchExamples
 pub mod MergeExamples
 pub mod Lookups
-pub mod PointerSights
+pub mod PointerTargets
 pub mod Operations
 pub mod Errors
 pub mod Described

@@ -1,7 +1,7 @@
 -- The tokens of a pointer, and the value that a token references.
 use Rattle.std.specs.Prelude.{ℕ, List, Bool, map, string_bytes, Result, Ok, Err, bytes_eq, codes, ◌||◌, ◌&&◌, nat_le, slice_index}
 use Rattle.json_grammar.specs.Tree.{Tree}
-use Rattle.json_model.specs.Edit.{Changed, Refusal, not_found, type_unmatched, and_then}
+use Rattle.json_model.specs.Edit.{Changed, EditRefusal, not_found, type_unmatched, and_then}
 use Rattle.json_io.specs.declared.error.Error.{Error}
 use Rattle.json_io.specs.declared.error.ErrorCode.TheVariants as code
 use Rattle.json_io.specs.declared.error.Place.TheVariants as place
@@ -26,7 +26,7 @@ abbrev pub value_at_token : ReferenceToken → Tree → Changed Tree
 value_at_token k t = and_then (step_of_token k t) (λ s. value_at_step s t)
 
 -- the refusal of a tree for a lookup error, and the error that a call returns for it
-abbrev pub refusal_of_lookup : LookupError → Refusal
+abbrev pub refusal_of_lookup : LookupError → EditRefusal
 refusal_of_lookup NotFound = not_found
 refusal_of_lookup TypeUnmatched = type_unmatched
 

@@ -13,7 +13,7 @@ use Rattle.json_patch.specs.declared.operation.Operation.TheVariants.{Add, Remov
 
 -- the operation on trees that an `Operation` represents
 abbrev pub model_operation : Operation → model.Operation
-model_operation (Add p v) = model.add (pointer_tokens p) (tree_of v)
+model_operation (Add p v) = model.add_at (pointer_tokens p) (tree_of v)
 model_operation (Remove p) = model.remove (pointer_tokens p)
 model_operation (Replace p v) = model.replace (pointer_tokens p) (tree_of v)
 model_operation (Move q p) = model.move (pointer_tokens q) (pointer_tokens p)

@@ -1,7 +1,7 @@
 -- JSON Patch (RFC 6902): what a patch makes of a tree.
 use Rattle.std.specs.Prelude.{ℕ, zero, suc, List, [], ◌∷◌, Bool, true, false, cond, ◌&&◌, Option, Some, None, Result, Ok, Err, bytes_eq, codes}
 use Rattle.json_grammar.specs.Tree.{Tree, text, list, pairs, Trees, no_trees, tree_and, trees_list, Pairs}
-use Rattle.json_model.specs.Edit.{Step, Edit, set_at, remove_at, Changed, Refusal, not_found, type_unmatched, within, at_path, inserted, pushed, edited_once, and_then}
+use Rattle.json_model.specs.Edit.{Step, Edit, set_at, remove_at, Changed, EditRefusal, not_found, type_unmatched, within, at_path, inserted, pushed, edited_once, and_then}
 use Rattle.json_model.specs.Same.{same}
 use Rattle.json_model.specs.Sort.{values_of}
 use Rattle.json_patch.specs.ValuesAt.{value_at_path}
@@ -9,7 +9,7 @@ use Rattle.json_patch.specs.Pointer.{ReferenceToken, pointer_of, index_of_token,
 
 -- an operation (section 4); `move` and `copy` have `from` and then `path`
 pub data Operation : Type 0 where
-  add : List ReferenceToken → Tree → Operation
+  add_at : List ReferenceToken → Tree → Operation
   remove : List ReferenceToken → Operation
   replace : List ReferenceToken → Tree → Operation
   move : List ReferenceToken → List ReferenceToken → Operation
@@ -65,7 +65,7 @@ move_allowed o = o
 -- the operation named by `op`, given `path`, `from` and `value`
 abbrev pub operation_named : List ℕ → Option (List ReferenceToken) → Option (List ReferenceToken) → Option Tree → Option Operation
 operation_named n path from value =
-    cond (bytes_eq n (codes "add")) (operation_with_value add path value)
+    cond (bytes_eq n (codes "add_at")) (operation_with_value add_at path value)
     (cond (bytes_eq n (codes "remove")) (with_path remove path)
     (cond (bytes_eq n (codes "replace")) (operation_with_value replace path value)
     (cond (bytes_eq n (codes "move")) (move_allowed (with_from move from path))
@@ -87,7 +87,7 @@ operation_of _ = None
 -- why a patch fails
 pub data PatchFailure : Type 0 where
   -- a pointer of an operation references nothing
-  lookup_failed : Refusal → PatchFailure
+  lookup_failed : EditRefusal → PatchFailure
   -- it is not an array of operations
   bad_patch : PatchFailure
   -- `test` found another value
@@ -150,7 +150,7 @@ lookup_outcome (Err e) = Err (lookup_failed e)
 
 -- what an operation makes of a tree
 abbrev pub applied : Operation → Tree → Result Tree PatchFailure
-applied (add p u) t = lookup_outcome (added_at p u t)
+applied (add_at p u) t = lookup_outcome (added_at p u t)
 applied (remove p) t = lookup_outcome (removed_at p t)
 applied (replace p u) t = lookup_outcome (replaced_at p u t)
 applied (move q p) t =

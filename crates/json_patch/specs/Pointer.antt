@@ -81,19 +81,19 @@ pointer_text (k ∷ p) = slash ∷ (escaped_token k ++ pointer_text p)
 
 -- ---- following tokens (section 4)
 
-abbrev pub is_digit : ℕ → Bool
-is_digit x = nat_le 48 x && nat_le x 57
+abbrev pub is_decimal_digit : ℕ → Bool
+is_decimal_digit x = nat_le 48 x && nat_le x 57
 
 -- the number whose first digits are n, and whose other digits these are
 abbrev pub index_after : ℕ → List ℕ → Option ℕ
 index_after n [] = Some n
-index_after n (x ∷ s) = elim (is_digit x) [ true ↦ index_after (n * 10 + (x - 48)) s | false ↦ None ]
+index_after n (x ∷ s) = elim (is_decimal_digit x) [ true ↦ index_after (n * 10 + (x - 48)) s | false ↦ None ]
 
 -- the index that a token is: `0`, or a digit from 1 to 9 and more digits
 abbrev pub index_of_token : ReferenceToken → Option ℕ
 index_of_token [] = None
-index_of_token (x ∷ []) = cond (is_digit x) (Some (x - 48)) None
-index_of_token (x ∷ y ∷ s) = elim (is_digit x && not (x == 48)) [ true ↦ index_after (x - 48) (y ∷ s) | false ↦ None ]
+index_of_token (x ∷ []) = cond (is_decimal_digit x) (Some (x - 48)) None
+index_of_token (x ∷ y ∷ s) = elim (is_decimal_digit x && not (x == 48)) [ true ↦ index_after (x - 48) (y ∷ s) | false ↦ None ]
 
 -- the step that a token is from a tree: a key from an object, an index from an array, and none from
 -- any other

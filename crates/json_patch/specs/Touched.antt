@@ -73,7 +73,7 @@ CopiesValue p old new = (v : Value) × AddsValue p v old new
 
 -- what an operation changes (RFC 6902, section 4); a test changes nothing
 abbrev pub OperationTouches : model.Operation → Value → Value → Type 0
-OperationTouches (model.add p u) old new = AddsTree p u old new
+OperationTouches (model.add_at p u) old new = AddsTree p u old new
 OperationTouches (model.remove p) old new = RemovesValue p old new
 OperationTouches (model.replace p u) old new = ReplacesByTree p u old new
 OperationTouches (model.move q p) old new = MovesValue q p old new

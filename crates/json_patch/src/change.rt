@@ -18,12 +18,12 @@ ghost use Rattle.json_io.specs.Errors.{OnlyNoMemory};
 use crate::lookup::{LookupError, find_value, index_at_most};
 use crate::path::{path_to, pointer_node};
 use json_doc::JsonType;
-use json_text::{Error, Result};
+use json_io::{Error, Result};
 use json_value::{Array, Edit, Object, Pair, Places, PointerNode, Text, Value, find_key, put};
 use std::alloc::Global;
 
 // Sets the first value of the key, or appends a member.
-fn insert_pair(pairs: &mut Vec<Pair>, alloc: Global, key: &str, value: Value) -> Result<()>
+fn upsert_member(pairs: &mut Vec<Pair>, alloc: Global, key: &str, value: Value) -> Result<()>
     ensures ok { OnOk result (inserted key.now (tree_of value)
         (list_pairs (map pair_of pairs.old.items)) ≡ list_pairs (map pair_of pairs.new.items)) }
     ensures children { OnOk result (InsertsMember key.now value pairs.old.items pairs.new.items) }
@@ -52,7 +52,7 @@ fn insert_member(object: &mut Object, alloc: Global, key: &str, value: Value) ->
     ensures only { OnlyNoMemory result }
 {
     let pairs = object.pairs_mut(alloc)?;
-    insert_pair(pairs, alloc, key, value)
+    upsert_member(pairs, alloc, key, value)
 }
 
 // Inserts the value before the element at the index, or after the last.
@@ -200,7 +200,7 @@ fn add_below(
 }
 
 /// Adds the value where the tokens reference. An error leaves `root` unspecified.
-pub fn add(root: &mut Value, alloc: Global, tokens: &[String], value: Value) -> Result<()>
+pub fn add_at(root: &mut Value, alloc: Global, tokens: &[String], value: Value) -> Result<()>
     ensures ok { OnOk result (Makes (added_at (map string_bytes tokens.now) (tree_of value)
         (tree_of root.old)) root.new) }
     ensures refused { FailsAs (added_at (map string_bytes tokens.now) (tree_of value)

@@ -15,8 +15,9 @@ use crate::merge::apply_merge;
 use crate::patch::apply_patch;
 use json_command::{BAD_WORDS, print_value, read_argument, read_document_from};
 use json_doc::Doc;
-use json_print::Style;
-use json_text::{Error, Result as TextResult, Rules, Sink, Source, Words};
+use json_io::{Error, Result as TextResult, Sink, Source, Words};
+use json_layout::Style;
+use json_text::Rules;
 use json_value::{Value, View};
 use std::alloc::Global;
 use std::rc::Rc;
@@ -103,7 +104,7 @@ fn apply_command(alloc: Global, value: &mut Value, command: &Command) -> Result<
 }
 
 // Returns the style of compact text.
-fn compact_style() -> Style<'static>
+fn default_style() -> Style<'static>
     ensures { (tree : Tree) → printed result tree ≡ shown None 0 tree }
 {
     match Style::new(None, false) {
@@ -128,14 +129,14 @@ pub fn transfer<S: Source, K: Sink>(
     ensures refused { IfErr result (RequestFails (patch_request_of command.now) (S.state source.old)
         (S.state source.new) (K.state sink.old) (K.state sink.new)) }
     ensures taken { TakesOneBeyond max_bytes (S.state source.old) (S.state source.new) }
-    ensures read_told { (S.state source.old).faults < (S.state source.new).faults
+    ensures read_error { (S.state source.old).faults < (S.state source.new).faults
         → IsErrOf result (CommandError.Transfer reading_failed) }
-    ensures write_told { (K.state sink.old).faults < (K.state sink.new).faults
+    ensures write_error { (K.state sink.old).faults < (K.state sink.new).faults
         → IsErrOf result (CommandError.Transfer writing_failed) }
 {
     let doc = read_document_from(alloc, source, Rules::usual())?;
     let mut value = Value::from_place(alloc, &doc, doc.root())?;
     apply_command(alloc, &mut value, command)?;
-    print_value(alloc, &value, compact_style(), sink)?;
+    print_value(alloc, &value, default_style(), sink)?;
     Ok(())
 }

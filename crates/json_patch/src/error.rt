@@ -7,7 +7,7 @@ ghost use Rattle.json_patch.specs.Errors.{patch_code_number, no_memory_in_patch}
 
 use crate::operation::path_of_operation;
 use itoa::Buffer;
-use json_text::Result as TextResult;
+use json_io::Result as TextResult;
 use json_value::View;
 use std::alloc::{AllocError, AllocFailed, Global};
 use thiserror::Error;
@@ -129,7 +129,7 @@ impl PatchError {
         ensures only { OnlyNoMemory result }
     {
         let mut text = self.describe(alloc)?;
-        if let Some(pointer) = path_in(self.op, patch) {
+        if let Some(pointer) = path_member(self.op, patch) {
             text.push_str(" at ")?;
             text.push_str(pointer)?;
         }
@@ -138,7 +138,7 @@ impl PatchError {
 }
 
 // Returns the member `path` of the operation that is named, if one is.
-fn path_in<'a>(op: Option<u32>, patch: View<'a>) -> Option<&'a str>
+fn path_member<'a>(op: Option<u32>, patch: View<'a>) -> Option<&'a str>
     ensures { option_map (λ s. s.now) result ≡ path_named op (seen patch.entry) }
 {
     match op {

@@ -4,12 +4,12 @@ ghost use Rattle.json_model.specs.Edit.{not_found};
 ghost use Rattle.json_patch.specs.Pointer.{index_of_token, value_at_pointer};
 ghost use Rattle.json_grammar.specs.Tree.{Tree};
 ghost use Rattle.json_value.specs.Seen.{seen, elements_seen, list_of};
-ghost use Rattle.json_value.specs.SightParts.{elements_sights, sight_elements};
-ghost use Rattle.json_value.specs.Sights.{Sight, sight_of};
+ghost use Rattle.json_value.specs.TargetParts.{elements_targets, target_elements};
+ghost use Rattle.json_value.specs.ViewTargets.{ViewTarget, view_target};
 ghost use Rattle.json_patch.specs.Lookups.{has_index_start, error_of_lookup, found_value, value_at_token};
-ghost use Rattle.json_patch.specs.PointerSights.{sight_at_token, sight_at_pointer};
+ghost use Rattle.json_patch.specs.PointerTargets.{target_at_token, target_at_pointer};
 
-use json_text::{Error, ErrorCode, Place};
+use json_io::{Error, ErrorCode, Place};
 use json_value::{ArrayView, View};
 
 /// Why a token references nothing.
@@ -72,7 +72,7 @@ pub fn index_at_most(last: usize, token: &str) -> Option<usize>
 // Returns the value, or `NotFound` if there is none.
 fn or_not_found<'a>(place: Option<View<'a>>) -> Result<View<'a>, LookupError>
     ensures tree { found_value result ≡ ok_or (option_map seen place.entry) not_found }
-    ensures sight { IfOk result (λ v. option_map sight_of place.entry ≡ Some (sight_of v)) }
+    ensures target { IfOk result (λ v. option_map view_target place.entry ≡ Some (view_target v)) }
 {
     match place {
         Some(view) => Ok(view),
@@ -84,9 +84,9 @@ fn or_not_found<'a>(place: Option<View<'a>>) -> Result<View<'a>, LookupError>
 fn find_element<'a>(token: &str, array: ArrayView<'a>) -> Result<View<'a>, LookupError>
     ensures tree { (t : Tree) → Some (elements_seen array.entry) ≡ list_of t
         → found_value result ≡ value_at_token token.now t }
-    ensures sight { (t : Tree) (s : Sight) → Some (elements_seen array.entry) ≡ list_of t
-        → Some (elements_sights array.entry) ≡ sight_elements s
-        → IfOk result (λ v. sight_at_token token.now t s ≡ Some (sight_of v)) }
+    ensures target { (t : Tree) (s : ViewTarget) → Some (elements_seen array.entry) ≡ list_of t
+        → Some (elements_targets array.entry) ≡ target_elements s
+        → IfOk result (λ v. target_at_token token.now t s ≡ Some (view_target v)) }
 {
     match index_at_most(array.len(), token) {
         Some(i) => or_not_found(array.get(i)),
@@ -98,8 +98,8 @@ fn find_element<'a>(token: &str, array: ArrayView<'a>) -> Result<View<'a>, Looku
 /// `NotFound` if there is none, and with `TypeUnmatched` at a scalar.
 pub fn find_child<'a>(token: &str, here: View<'a>) -> Result<View<'a>, LookupError>
     ensures tree { found_value result ≡ value_at_token token.now (seen here.entry) }
-    ensures sight { IfOk result (λ v. sight_at_token token.now (seen here.entry)
-        (sight_of here.entry) ≡ Some (sight_of v)) }
+    ensures target { IfOk result (λ v. target_at_token token.now (seen here.entry)
+        (view_target here.entry) ≡ Some (view_target v)) }
 {
     if let Some(array) = here.as_array() {
         return find_element(token, array);
@@ -115,8 +115,8 @@ pub fn find_child<'a>(token: &str, here: View<'a>) -> Result<View<'a>, LookupErr
 pub fn find_value<'a>(tokens: &[String], root: View<'a>) -> Result<View<'a>, LookupError>
     ensures tree { found_value result
         ≡ value_at_pointer (map string_bytes tokens.now) (seen root.entry) }
-    ensures sight { IfOk result (λ v. sight_at_pointer (map string_bytes tokens.now)
-        (seen root.entry) (sight_of root.entry) ≡ Some (sight_of v)) }
+    ensures target { IfOk result (λ v. target_at_pointer (map string_bytes tokens.now)
+        (seen root.entry) (view_target root.entry) ≡ Some (view_target v)) }
 {
     let mut here = root;
     for token in tokens {

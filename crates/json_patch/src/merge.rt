@@ -16,7 +16,7 @@ use crate::change::object_mut_in;
 use crate::error::{PatchCode, PatchError};
 use crate::key_index::KeyIndex;
 use json_doc::JsonType;
-use json_text::Result as TextResult;
+use json_io::Result as TextResult;
 use json_value::{Object, ObjectView, Pair, Text, Value, View};
 use std::alloc::Global;
 

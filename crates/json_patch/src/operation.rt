@@ -6,16 +6,16 @@ ghost use Rattle.json_patch.specs.Pointer.{pointer_of};
 ghost use Rattle.json_patch.specs.Patch.{single_value, string_in, pointer_in, is_proper_prefix, tokens_eq, move_allowed, operation_named, operation_of};
 ghost use Rattle.json_value.specs.Denotes.{tree_of};
 ghost use Rattle.json_value.specs.Seen.{seen, members_seen};
-ghost use Rattle.json_value.specs.SightParts.{members_sights};
-ghost use Rattle.json_value.specs.Sights.{sight_of};
+ghost use Rattle.json_value.specs.TargetParts.{members_targets};
+ghost use Rattle.json_value.specs.ViewTargets.{view_target};
 ghost use Rattle.json_patch.specs.Operations.{model_operation, moved_from, both_of, path_and_value_of, from_and_path_of};
 ghost use Rattle.json_patch.specs.Lookups.{pointer_tokens};
-ghost use Rattle.json_patch.specs.PointerSights.{first_sight};
+ghost use Rattle.json_patch.specs.PointerTargets.{first_target};
 ghost use Rattle.json_io.specs.Errors.{OnlyNoMemory};
 
 use crate::error::PatchCode;
 use crate::pointer::Pointer;
-use json_text::{Error, ErrorCode, Place, Result};
+use json_io::{Error, ErrorCode, Place, Result};
 use json_value::{ObjectView, Value, View};
 use std::alloc::Global;
 
@@ -34,8 +34,8 @@ pub enum Operation {
 pub fn single_member<'a>(object: ObjectView<'a>, key: &str) -> Option<View<'a>>
     ensures tree { option_map seen result
         ≡ single_value key.now (list_pairs (members_seen object.entry)) }
-    ensures sight { IfSome result (λ v.
-        first_sight key.now (members_sights object.entry) ≡ Some (sight_of v)) }
+    ensures target { IfSome result (λ v.
+        first_target key.now (members_targets object.entry) ≡ Some (view_target v)) }
 {
     let mut found: Option<View<'a>> = None;
     'members: for (name, value) in object.iter() {
@@ -100,7 +100,7 @@ fn single_pointer(alloc: Global, object: ObjectView<'_>, key: &str) -> Result<Op
 }
 
 // Returns a copy of the value of the member `value`.
-fn read_value(alloc: Global, object: ObjectView<'_>) -> Result<Option<Value>>
+fn value_member(alloc: Global, object: ObjectView<'_>) -> Result<Option<Value>>
     ensures ok { IfOk result (λ o. option_map tree_of o
         ≡ single_value (codes "value") (list_pairs (members_seen object.entry))) }
     ensures only { OnlyNoMemory result }
@@ -123,7 +123,7 @@ fn path_and_value(alloc: Global, object: ObjectView<'_>) -> Result<Option<(Point
     ensures only { OnlyNoMemory result }
 {
     match single_pointer(alloc, object, "path")? {
-        Some(path) => match read_value(alloc, object)? {
+        Some(path) => match value_member(alloc, object)? {
             Some(value) => Ok(Some((path, value))),
             None => Ok(None),
         },

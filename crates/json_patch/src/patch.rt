@@ -11,15 +11,15 @@ ghost use Rattle.json_patch.specs.Errors.{ReadingOperationsFails, OperationFails
 ghost use Rattle.json_patch.specs.Touched.{CopiesValue, MovesValue, AddsTree, ReplacesByTree, OperationTouches, OperationsTouch, TouchesInTurn, PatchTouches};
 ghost use Rattle.json_patch.specs.Operations.{model_operation, moved, copied_to};
 
-use crate::change::{add, copied, remove, replace};
+use crate::change::{add_at, copied, remove, replace};
 use crate::error::{PatchCode, PatchError};
 use crate::lookup::find_value;
 use crate::operation::{Operation, are_tokens_same, read_operation};
-use json_text::{Error, ErrorCode, Result as TextResult};
+use json_io::{Error, ErrorCode, Result as TextResult};
 use json_value::{ArrayView, Value, View};
 use std::alloc::Global;
 
-fn no_memory() -> PatchError
+fn memory_ran_out() -> PatchError
     ensures { result ≡ record { code = PatchCode.NoMemory; op = None } }
 {
     PatchError {
@@ -61,7 +61,7 @@ fn copy_to(root: &mut Value, alloc: Global, from: &[String], path: &[String]) ->
     ensures children { OnOk result (CopiesValue (map string_bytes path.now) root.old root.new) }
 {
     let value = copied(root, alloc, from)?;
-    add(root, alloc, path, value)
+    add_at(root, alloc, path, value)
 }
 
 // Removes the value at `from` and adds it at `path`.
@@ -79,7 +79,7 @@ fn move_to(root: &mut Value, alloc: Global, from: &[String], path: &[String]) ->
     }
     let value = copied(root, alloc, from)?;
     match remove(root, alloc, from) {
-        Ok(()) => add(root, alloc, path, value),
+        Ok(()) => add_at(root, alloc, path, value),
         Err(error) => Err(error),
     }
 }
@@ -118,7 +118,7 @@ fn add_copy(root: &mut Value, alloc: Global, tokens: &[String], value: &Value) -
         root.old root.new) }
 {
     let copy = value.clone(alloc)?;
-    add(root, alloc, tokens, copy)
+    add_at(root, alloc, tokens, copy)
 }
 
 // Replaces the value that the tokens reference by a copy of the value.
@@ -169,13 +169,13 @@ fn apply_operation(root: &mut Value, alloc: Global, operation: &Operation) -> Re
 }
 
 // Returns the error of the operation at index `i`; no operation is named if memory ran out.
-fn numbered(code: PatchCode, i: usize) -> PatchError
+fn error_at_operation(code: PatchCode, i: usize) -> PatchError
     requires { i < 2 ^ 32 }
     ensures { (made : Result Tree PatchFailure) → OperationFails made code
         → PatchFails (with_number made i) result.code result.op }
 {
     match code {
-        PatchCode::NoMemory => no_memory(),
+        PatchCode::NoMemory => memory_ran_out(),
         _ => PatchError {
             code,
             op: Some(i as u32),
@@ -184,7 +184,11 @@ fn numbered(code: PatchCode, i: usize) -> PatchError
 }
 
 // Applies operations in turn. An error leaves `root` unspecified.
-fn apply_all(root: &mut Value, alloc: Global, operations: &[Operation]) -> Result<(), PatchError>
+fn apply_operations(
+    root: &mut Value,
+    alloc: Global,
+    operations: &[Operation],
+) -> Result<(), PatchError>
     requires few { length operations.now < 2 ^ 32 }
     ensures ok { OnOk result (applied_from 0 (map model_operation operations.now) (tree_of root.old)
         ≡ Ok (tree_of root.new)) }
@@ -196,7 +200,7 @@ fn apply_all(root: &mut Value, alloc: Global, operations: &[Operation]) -> Resul
     for (i, operation) in operations.iter().enumerate() {
         match apply_operation(root, alloc, operation) {
             Ok(()) => (),
-            Err(code) => return Err(numbered(code, i)),
+            Err(code) => return Err(error_at_operation(code, i)),
         }
     }
     Ok(())
@@ -221,7 +225,7 @@ fn read_operations(alloc: Global, list: ArrayView<'_>) -> Result<Vec<Operation>,
                         op: Some(i as u32),
                     });
                 }
-                Err(_) => return Err(no_memory()),
+                Err(_) => return Err(memory_ran_out()),
             }
         }
     }
@@ -238,7 +242,7 @@ fn apply_list(root: &mut Value, alloc: Global, list: ArrayView<'_>) -> Result<()
     ensures children { OnOk result (TouchesInTurn (elements_seen list.entry) root.old root.new) }
 {
     let operations = read_operations(alloc, list)?;
-    apply_all(root, alloc, operations.as_slice())
+    apply_operations(root, alloc, operations.as_slice())
 }
 
 /// Applies a JSON Patch (RFC 6902) to a value. All operations are read first; then each is applied
@@ -255,7 +259,7 @@ fn apply_list(root: &mut Value, alloc: Global, list: ArrayView<'_>) -> Result<()
 /// use json_value::{Value, View};
 /// let doc = read_document(alloc, "{\"a\": [true]}")?;
 /// let mut value = Value::from_place(alloc, &doc, doc.root())?;
-/// let patch = read_document(alloc, "[{\"op\": \"add\", \"path\": \"/a/0\", \"value\": null}]")?;
+/// let patch = read_document(alloc, "[{\"op\": \"add_at\", \"path\": \"/a/0\", \"value\": null}]")?;
 /// apply_patch(alloc, &mut value, View::packed(patch.view()))?;
 /// assert_eq!(rt; value.to_string(alloc)?.as_str(), "{\"a\":[null,true]}");
 /// ```
@@ -272,7 +276,7 @@ pub fn apply_patch(alloc: Global, value: &mut Value, patch: View<'_>) -> Result<
         Some(list) => {
             let mut work = match value.clone(alloc) {
                 Ok(copy) => copy,
-                Err(_) => return Err(no_memory()),
+                Err(_) => return Err(memory_ran_out()),
             };
             apply_list(&mut work, alloc, list)?;
             *value = work;

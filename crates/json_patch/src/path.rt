@@ -7,7 +7,7 @@ ghost use Rattle.json_value.specs.Seen.{seen};
 ghost use Rattle.json_patch.specs.Lookups.{value_at_token};
 
 use crate::lookup::{LookupError, find_child, index_at_most};
-use json_text::{Error, Result};
+use json_io::{Error, Result};
 use json_value::{Path, PointerNode, Text, View};
 use std::alloc::Global;
 

@@ -3,17 +3,17 @@ ghost use Rattle.std.specs.Prelude.{◌≡◌, ◌++◌, Some, None, OnOk, OnErr
 ghost use Rattle.std.specs.Result.{result_ok};
 ghost use Rattle.json_value.specs.Edits.{path_steps, FailsAs};
 ghost use Rattle.json_value.specs.Seen.{seen};
-ghost use Rattle.json_value.specs.Sights.{sight_of};
+ghost use Rattle.json_value.specs.ViewTargets.{view_target};
 ghost use Rattle.json_patch.specs.Pointer.{pointer_of, pointer_text, unescaped_after, unescaped_tokens, split_at_slashes, value_at_pointer, escaped_token, tilde, Lacks, AppendsFrontOf, path_of_tokens};
 ghost use Rattle.json_patch.specs.Errors.{PointerFails};
 ghost use Rattle.json_patch.specs.Lookups.{pointer_tokens};
-ghost use Rattle.json_patch.specs.PointerSights.{sight_at_pointer};
+ghost use Rattle.json_patch.specs.PointerTargets.{target_at_pointer};
 ghost use Rattle.json_io.specs.Errors.{OnlyNoMemory};
 
 use crate::error::{PatchCode, PatchError};
 use crate::lookup::find_value;
 use crate::path::path_to;
-use json_text::Result as TextResult;
+use json_io::Result as TextResult;
 use json_value::{Path, View};
 use std::alloc::Global;
 
@@ -151,8 +151,8 @@ impl Pointer {
     pub fn find<'a>(&self, root: View<'a>) -> Option<View<'a>>
         ensures tree { option_map seen result
             ≡ result_ok (value_at_pointer (pointer_tokens self.now) (seen root.entry)) }
-        ensures sight { IfSome result (λ v. sight_at_pointer (pointer_tokens self.now)
-            (seen root.entry) (sight_of root.entry) ≡ Some (sight_of v)) }
+        ensures target { IfSome result (λ v. target_at_pointer (pointer_tokens self.now)
+            (seen root.entry) (view_target root.entry) ≡ Some (view_target v)) }
     {
         match find_value(self.tokens.as_slice(), root) {
             Ok(place) => Some(place),

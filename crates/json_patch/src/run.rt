@@ -13,7 +13,7 @@ ghost use Rattle.json_patch.specs.Commands.{WithRequest, IsRequest, WritesOutcom
 use crate::command::{CommandError, read_command, transfer};
 use crate::error::{PatchCode, PatchError};
 use json_command::{Status, report, report_text};
-use json_text::{Error, Result as TextResult, Sink, Source, Words};
+use json_io::{Error, Result as TextResult, Sink, Source, Words};
 use std::alloc::Global;
 
 // Returns the line of an error of a patch.
@@ -44,7 +44,7 @@ fn status(error: &Error) -> u8
 }
 
 // Does what the arguments ask for.
-fn carry_out<S: Source, K: Sink>(
+fn perform_command<S: Source, K: Sink>(
     alloc: Global,
     arguments: &Words,
     source: &mut S,
@@ -56,9 +56,9 @@ fn carry_out<S: Source, K: Sink>(
         (PatchRunFails arguments.now (S.state source.old) (S.state source.new)
         (K.state sink.old) (K.state sink.new)) }
     ensures taken { TakesOneBeyond max_bytes (S.state source.old) (S.state source.new) }
-    ensures read_told { (S.state source.old).faults < (S.state source.new).faults
+    ensures read_error { (S.state source.old).faults < (S.state source.new).faults
         → IsErrOf result (CommandError.Transfer reading_failed) }
-    ensures write_told { (K.state sink.old).faults < (K.state sink.new).faults
+    ensures write_error { (K.state sink.old).faults < (K.state sink.new).faults
         → IsErrOf result (CommandError.Transfer writing_failed) }
 {
     let command = read_command(alloc, arguments)?;
@@ -114,8 +114,8 @@ pub fn run_patch<S: Source, K: Sink, E: Sink>(
         (S.state source.old) (S.state source.new)
         (K.state sink.old) (K.state sink.new) (E.state errs.old) (E.state errs.new) }
     ensures taken { TakesOneBeyond max_bytes (S.state source.old) (S.state source.new) }
-    ensures read_told { ReturnsReadStatus (S.state source.old) (S.state source.new) result }
-    ensures write_told { ReturnsWriteStatus (K.state sink.old) (K.state sink.new) result }
+    ensures read_error { ReturnsReadStatus (S.state source.old) (S.state source.new) result }
+    ensures write_error { ReturnsWriteStatus (K.state sink.old) (K.state sink.new) result }
     ensures complete { IsFit arguments.now (S.state source.old) (S.state source.new)
         (K.state sink.old) (K.state sink.new) → (result ≡ 0) ⊎ (result ≡ 6) }
     ensures exact { (code : ErrorCode) (place : Place)
@@ -128,7 +128,7 @@ pub fn run_patch<S: Source, K: Sink, E: Sink>(
         (E.state errs.old) (E.state errs.new) result }
     ensures words { ¬ (IsRequest arguments.now) → (result ≡ 2) ⊎ (result ≡ 6) }
 {
-    match carry_out(alloc, arguments, source, sink) {
+    match perform_command(alloc, arguments, source, sink) {
         Ok(()) => 0,
         Err(CommandError::Transfer(error)) => {
             report(errs, &error);

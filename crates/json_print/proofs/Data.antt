@@ -4,23 +4,23 @@ use Rattle.std.specs.Prelude.{MatchOption}
 use Rattle.json_grammar.specs.declared.Kind.TheVariants.{Array as array, Object as object}
 use Rattle.json_grammar.specs.Tree.{Tree, list, pairs, Trees, Pairs, Token, begin, end, key_token, tokens, trees_tokens, pairs_tokens}
 use Rattle.json_model.specs.Datum.{Datum, null_datum, boolean_datum, integer_datum, text_datum, literal_datum, list_datum, rows_datum, Data, no_data, datum_and, Rows, no_rows, row_and, key_of, element_before, member_before, tree_of_datum, trees_of, pairs_of}
-use Rattle.json_print.specs.Data.{parts, data_parts, rows_parts, before_gap, is_whole}
+use Rattle.json_print.specs.Data.{parts, data_parts, rows_parts, before_gap, keys_have_texts}
 use Rattle.json_print.specs.Given.{TokenOrInteger, given, given_tokens}
 use Rattle.json_print.proofs.Taking.{tokens_append}
 
 -- ---- where the gaps are
 
-pub before_append : (ps qs : List (Option TokenOrInteger)) → is_whole ps ≡ true → before_gap (ps ++ qs) ≡ before_gap ps ++ before_gap qs
+pub before_append : (ps qs : List (Option TokenOrInteger)) → keys_have_texts ps ≡ true → before_gap (ps ++ qs) ≡ before_gap ps ++ before_gap qs
 before_append [] qs w = refl
 before_append (None ∷ ps) qs w = absurd (cc)
 before_append (Some g ∷ ps) qs w = ap (λ gs. g ∷ gs) (before_append ps qs w)
 
-pub whole_append : (ps qs : List (Option TokenOrInteger)) → is_whole ps ≡ true → is_whole (ps ++ qs) ≡ is_whole qs
+pub whole_append : (ps qs : List (Option TokenOrInteger)) → keys_have_texts ps ≡ true → keys_have_texts (ps ++ qs) ≡ keys_have_texts qs
 whole_append [] qs w = refl
 whole_append (None ∷ ps) qs w = absurd (cc)
 whole_append (Some g ∷ ps) qs w = whole_append ps qs w
 
-pub gap_append : (ps qs : List (Option TokenOrInteger)) → is_whole ps ≡ false → is_whole (ps ++ qs) ≡ false
+pub gap_append : (ps qs : List (Option TokenOrInteger)) → keys_have_texts ps ≡ false → keys_have_texts (ps ++ qs) ≡ false
 gap_append [] qs w = absurd (cc)
 gap_append (None ∷ ps) qs w = refl
 gap_append (Some g ∷ ps) qs w = gap_append ps qs w
@@ -28,9 +28,9 @@ gap_append (Some g ∷ ps) qs w = gap_append ps qs w
 -- ---- the tokens of trees
 
 Spelled : {A : Type 0} → (A → List Token) → Option A → List (Option TokenOrInteger) → Type 0
-Spelled f o ps = MatchOption o (is_whole ps ≡ false) (λ t. (is_whole ps ≡ true) × (given_tokens (before_gap ps) ≡ f t))
+Spelled f o ps = MatchOption o (keys_have_texts ps ≡ false) (λ t. (keys_have_texts ps ≡ true) × (given_tokens (before_gap ps) ≡ f t))
 
-two : (ps qs : List (Option TokenOrInteger)) (a b : List Token) → is_whole ps ≡ true → given_tokens (before_gap ps) ≡ a → given_tokens (before_gap qs) ≡ b → given_tokens (before_gap (ps ++ qs)) ≡ a ++ b
+two : (ps qs : List (Option TokenOrInteger)) (a b : List Token) → keys_have_texts ps ≡ true → given_tokens (before_gap ps) ≡ a → given_tokens (before_gap qs) ≡ b → given_tokens (before_gap (ps ++ qs)) ≡ a ++ b
 two ps qs a b w h k = ap given_tokens (before_append ps qs w) ∙ tokens_append (before_gap ps) (before_gap qs) ∙ ap₂ (λ x y. x ++ y) h k
 
 in_list : (o : Option Trees) (ps : List (Option TokenOrInteger)) → Spelled trees_tokens o ps → Spelled tokens (option_map list o) (Some (given (begin array)) ∷ (ps ++ Some (given (end array)) ∷ []))
@@ -60,7 +60,7 @@ one_more_row (Some s) (Some t) (Some us) ps qs h k = (whole_append ps qs h.0 ∙
 mutual
   unfolding Spelled
 
-  pub datum_spelled : (d : Datum) → MatchOption (tree_of_datum d) (is_whole (parts d) ≡ false) (λ t. (is_whole (parts d) ≡ true) × (given_tokens (before_gap (parts d)) ≡ tokens t))
+  pub datum_spelled : (d : Datum) → MatchOption (tree_of_datum d) (keys_have_texts (parts d) ≡ false) (λ t. (keys_have_texts (parts d) ≡ true) × (given_tokens (before_gap (parts d)) ≡ tokens t))
   datum_spelled null_datum = (refl, refl)
   datum_spelled (boolean_datum b) = (refl, refl)
   datum_spelled (integer_datum n) = (refl, refl)
@@ -85,21 +85,21 @@ pub record WholeTree (d : Datum) : Type 0 where
   pub is : tree_of_datum d ≡ Some tree
   pub spelled : given_tokens (before_gap (parts d)) ≡ tokens tree
 
-tree_in : (d : Datum) (o : Option Tree) → tree_of_datum d ≡ o → Spelled tokens o (parts d) → is_whole (parts d) ≡ true → WholeTree d
+tree_in : (d : Datum) (o : Option Tree) → tree_of_datum d ≡ o → Spelled tokens o (parts d) → keys_have_texts (parts d) ≡ true → WholeTree d
 unfolding Spelled
 tree_in d None e h w = absurd (cc)
 tree_in d (Some t) e h w = record { tree = t; is = e; spelled = h.1 }
 
-pub whole_tree : (d : Datum) → is_whole (parts d) ≡ true → WholeTree d
+pub whole_tree : (d : Datum) → keys_have_texts (parts d) ≡ true → WholeTree d
 unfolding Spelled
 whole_tree d w = tree_in d (tree_of_datum d) refl (datum_spelled d) w
 
-no_tree_in : (o : Option Tree) (ps : List (Option TokenOrInteger)) → Spelled tokens o ps → is_whole ps ≡ false → o ≡ None
+no_tree_in : (o : Option Tree) (ps : List (Option TokenOrInteger)) → Spelled tokens o ps → keys_have_texts ps ≡ false → o ≡ None
 unfolding Spelled
 no_tree_in None ps h w = refl
 no_tree_in (Some t) ps h w = let s = h.0 in absurd (cc)
 
-pub gap_tree : (d : Datum) → is_whole (parts d) ≡ false → tree_of_datum d ≡ None
+pub gap_tree : (d : Datum) → keys_have_texts (parts d) ≡ false → tree_of_datum d ≡ None
 unfolding Spelled
 gap_tree d w = no_tree_in (tree_of_datum d) (parts d) (datum_spelled d) w
 

@@ -1,7 +1,7 @@
 -- The innermost of the sorted objects that are open.
 use Rattle.std.proofs.Common.{◌≡◌, ℕ, ◌+◌, ◌-◌, ◌<◌, List, [], ◌∷◌, ◌++◌, length, take, set, get_or, reverse, ◌∙◌, sym, ap, ap₂, arith}
 use Rattle.std.proofs.lemmas.List.{take_more, take_all, reverse-append, length-set, get_or-set_same, take-set-le}
-use Rattle.json_print.specs.Printer.{Out, Layer, gained_put, layers_put}
+use Rattle.json_print.specs.Printer.{SerializerState, Layer, gained_put, layers_put}
 
 -- the last of a list, and what precedes it
 pub record Innermost (xs : List Layer) (n : ℕ) (l : Layer) : Type 0 where
@@ -23,12 +23,12 @@ innermost xs len n l e p k g =
     }
 
 -- a piece into the innermost
-pub put_in : {F : Type 0} (old : Out F) (g h : F) (p : List ℕ) (l k : Layer) (outer new : List Layer) → old.layers ≡ l ∷ outer → new ≡ k ∷ outer → k ≡ record l { text = l.text ++ p } → h ≡ g
-    → ◌≡◌ {A = Out F} (record old { formatter = h; layers = new }) (record old { formatter = g; gained = gained_put old.layers old.gained p; layers = layers_put old.layers p })
+pub put_in : {F : Type 0} (old : SerializerState F) (g h : F) (p : List ℕ) (l k : Layer) (outer new : List Layer) → old.layers ≡ l ∷ outer → new ≡ k ∷ outer → k ≡ record l { text = l.text ++ p } → h ≡ g
+    → ◌≡◌ {A = SerializerState F} (record old { formatter = h; layers = new }) (record old { formatter = g; gained = gained_put old.layers old.gained p; layers = layers_put old.layers p })
 put_in {F = F} old g h p l k outer new e f j n =
-    ap₂ (λ (x : F) (ls : List Layer). let r : Out F = record old { formatter = x; layers = ls } in r) n (f ∙ ap (λ x. x ∷ outer) j)
-    ∙ sym (ap (λ ls. let r : Out F = record old { formatter = g; gained = gained_put ls old.gained p; layers = layers_put ls p } in r) e)
+    ap₂ (λ (x : F) (ls : List Layer). let r : SerializerState F = record old { formatter = x; layers = ls } in r) n (f ∙ ap (λ x. x ∷ outer) j)
+    ∙ sym (ap (λ ls. let r : SerializerState F = record old { formatter = g; gained = gained_put ls old.gained p; layers = layers_put ls p } in r) e)
 
 -- another change of it
-pub changed_in : {F : Type 0} (old : Out F) (f : List Layer → List Layer) (l k : Layer) (outer new : List Layer) → old.layers ≡ l ∷ outer → new ≡ k ∷ outer → k ∷ outer ≡ f (l ∷ outer) → ◌≡◌ {A = Out F} (record old { layers = new }) (record old { layers = f old.layers })
-changed_in {F = F} old f l k outer new e g h = ap (λ (ls : List Layer). let r : Out F = record old { layers = ls } in r) (g ∙ h ∙ ap f (sym e))
+pub changed_in : {F : Type 0} (old : SerializerState F) (f : List Layer → List Layer) (l k : Layer) (outer new : List Layer) → old.layers ≡ l ∷ outer → new ≡ k ∷ outer → k ∷ outer ≡ f (l ∷ outer) → ◌≡◌ {A = SerializerState F} (record old { layers = new }) (record old { layers = f old.layers })
+changed_in {F = F} old f l k outer new e g h = ap (λ (ls : List Layer). let r : SerializerState F = record old { layers = ls } in r) (g ∙ h ∙ ap f (sym e))

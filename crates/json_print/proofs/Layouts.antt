@@ -4,7 +4,7 @@ use Rattle.std.specs.Fmt.{decimal}
 use Rattle.json_layout.specs.IndentBytes.{indent_bytes}
 use Rattle.json_grammar.specs.Place.{closing}
 use Rattle.json_layout.specs.Pieces.{closing_line, byte_elements, comma, holds_any}
-use Rattle.json_print.specs.Calls.{Call, null_call, boolean_call, number_call, string_call, bytes_call, begin_string, end_string, begin_call, end_call, begin_element, end_element, begin_key, end_key, begin_member, end_member, raw_call, piece_of, level_after, flag_after, up, down}
+use Rattle.json_print.specs.Calls.{FormatterCall, null_call, boolean_call, number_call, string_call, bytes_call, begin_string, end_string, begin_call, end_call, begin_element, end_element, begin_key, end_key, begin_member, end_member, raw_call, piece_of, level_after, flag_after, up, down}
 use Rattle.json_print.specs.declared.pretty.PrettyFormatter.{PrettyFormatter}
 use Rattle.json_print.specs.Layouts.{LaidOut, plain_form, pretty_form, pieces, pieces_of}
 
@@ -18,7 +18,7 @@ plain_elements : (d e : ℕ) (first : Bool) (bytes : List ℕ) → byte_elements
 plain_elements d e first [] = refl
 plain_elements d e first (x ∷ bytes) = ap (λ l. comma first ++ (decimal x ++ l)) (plain_elements d e false bytes)
 
-plain_piece : (d : ℕ) (b : Bool) (c : Call) → piece_of None 0 false c ≡ piece_of None d b c
+plain_piece : (d : ℕ) (b : Bool) (c : FormatterCall) → piece_of None 0 false c ≡ piece_of None d b c
 plain_piece d b null_call = refl
 plain_piece d b (boolean_call x) = refl
 plain_piece d b (number_call x) = refl
@@ -36,13 +36,13 @@ plain_piece d b begin_member = refl
 plain_piece d b end_member = refl
 plain_piece d b (raw_call x) = refl
 
-plain_from : {F : Type 0} (f : F) (d : ℕ) (b : Bool) (cs : List Call) → pieces plain_form f cs ≡ pieces_of None d b cs
+plain_from : {F : Type 0} (f : F) (d : ℕ) (b : Bool) (cs : List FormatterCall) → pieces plain_form f cs ≡ pieces_of None d b cs
 plain_from f d b [] = refl
 plain_from f d b (c ∷ cs) = ap₂ (λ x xs. x ∷ xs) (plain_piece d b c) (plain_from f (level_after d c) (flag_after b c) cs)
 
 pub plain_laid : {F : Type 0} (f : F) → LaidOut plain_form f None 0 false
 plain_laid f = plain_from f 0 false
 
-pub pretty_from : (s : PrettyFormatter) (cs : List Call) → pieces pretty_form s cs ≡ pieces_of (Some (indent_bytes s.indent)) s.level s.flag cs
+pub pretty_from : (s : PrettyFormatter) (cs : List FormatterCall) → pieces pretty_form s cs ≡ pieces_of (Some (indent_bytes s.indent)) s.level s.flag cs
 pretty_from s [] = refl
 pretty_from s (c ∷ cs) = ap (λ xs. piece_of (Some (indent_bytes s.indent)) s.level s.flag c ∷ xs) (pretty_from (record s { level = level_after s.level c; flag = flag_after s.flag c }) cs)

@@ -13,7 +13,7 @@ use Rattle.json_io.specs.Outside.{SinkState}
 use Rattle.json_io.specs.Transfer.{Puts}
 use Rattle.json_print.specs.declared.sorted.Member.{Member}
 use Rattle.json_print.specs.Printer.{MemberText, Layer}
-use Rattle.json_print.specs.Members.{member_text_of, layer_of, IsWithin, AreWithin, HoldMembers}
+use Rattle.json_print.specs.Members.{member_text_of, layer_of, IsMemberWithin, AreWithin, HoldMembers}
 
 -- ---- a text after others
 
@@ -29,7 +29,7 @@ piece_on b p i j o h = ap (take (j - i)) (drop-append-le i b p (omega arith)) �
 
 -- ---- more keys
 
-within_keys : (keys texts k : List ℕ) (m : Member) → IsUtf8 k → IsWithin keys texts m → IsWithin (keys ++ k) texts m
+within_keys : (keys texts k : List ℕ) (m : Member) → IsUtf8 k → IsMemberWithin keys texts m → IsMemberWithin (keys ++ k) texts m
 within_keys keys texts k m u h =
     record { key_begins = boundary_on keys k m.key_from u h.key_begins; key_ends = boundary_on keys k m.key_to u h.key_ends; key_order = h.key_order; text_order = h.text_order; text_within = h.text_within }
 
@@ -51,7 +51,7 @@ layer_keys keys texts k ms i j h =
 
 -- ---- more texts
 
-within_texts : (keys texts t : List ℕ) (m : Member) → IsWithin keys texts m → IsWithin keys (texts ++ t) m
+within_texts : (keys texts t : List ℕ) (m : Member) → IsMemberWithin keys texts m → IsMemberWithin keys (texts ++ t) m
 within_texts keys texts t m h =
     record { key_begins = h.key_begins; key_ends = h.key_ends; key_order = h.key_order; text_order = h.text_order; text_within = omega (arith, h.text_within, length-append texts t) }
 
@@ -73,7 +73,7 @@ layer_texts keys texts t ms i j h =
 
 -- ---- the open member is finished
 
-all_more : (keys texts : List ℕ) (ms : List Member) (m : Member) → AreWithin keys texts ms → IsWithin keys texts m → AreWithin keys texts (ms ++ m ∷ [])
+all_more : (keys texts : List ℕ) (ms : List Member) (m : Member) → AreWithin keys texts ms → IsMemberWithin keys texts m → AreWithin keys texts (ms ++ m ∷ [])
 all_more keys texts [] m h w = (w, tt)
 all_more keys texts (n ∷ ms) m h w = (h.0, all_more keys texts ms m h.1 w)
 
@@ -88,7 +88,7 @@ hold_more keys texts ms i j a b e k h =
 
 -- ---- one member
 
-all_at : (keys texts : List ℕ) (ms : List Member) (n : ℕ) (d : Member) → AreWithin keys texts ms → n < length ms → IsWithin keys texts (get_or ms n d)
+all_at : (keys texts : List ℕ) (ms : List Member) (n : ℕ) (d : Member) → AreWithin keys texts ms → n < length ms → IsMemberWithin keys texts (get_or ms n d)
 all_at keys texts [] n d h l = absurd (omega arith)
 all_at keys texts (m ∷ ms) zero d h l = h.0
 all_at keys texts (m ∷ ms) (suc n) d h l = all_at keys texts ms n d h.1 (omega arith)
@@ -99,8 +99,8 @@ rows_length keys texts ms i j l e = sym (length-map ms (member_text_of keys text
 counted : (keys texts : List ℕ) (ms : List Member) (i j n : ℕ) (l : Layer) → layer_of keys texts ms i j ≡ l → n < length l.rows → n < length ms
 counted keys texts ms i j n l e h = subst (λ k. n < k) (sym (rows_length keys texts ms i j l e)) h
 
-pub member_within : (keys texts : List ℕ) (ms : List Member) (i j n : ℕ) (l : Layer) (m : Member) → HoldMembers keys texts ms i j → layer_of keys texts ms i j ≡ l → n < length l.rows → m ≡ get_or ms n m → IsWithin keys texts m
-member_within keys texts ms i j n l m h e k g = subst (IsWithin keys texts) (sym g) (all_at keys texts ms n m h.finished (counted keys texts ms i j n l e k))
+pub member_within : (keys texts : List ℕ) (ms : List Member) (i j n : ℕ) (l : Layer) (m : Member) → HoldMembers keys texts ms i j → layer_of keys texts ms i j ≡ l → n < length l.rows → m ≡ get_or ms n m → IsMemberWithin keys texts m
+member_within keys texts ms i j n l m h e k g = subst (IsMemberWithin keys texts) (sym g) (all_at keys texts ms n m h.finished (counted keys texts ms i j n l e k))
 
 row_get : (keys texts : List ℕ) (ms : List Member) (n : ℕ) (d : Member) → n < length ms → slice_get (map (member_text_of keys texts) ms) n ≡ Some (member_text_of keys texts (get_or ms n d))
 row_get keys texts [] n d l = absurd (omega arith)
@@ -112,16 +112,16 @@ member_row keys texts ms i j n l m e k g = ap (λ (x : Layer). slice_get x.rows 
 
 -- ---- what a sink in memory has gained
 
-told_bytes : (a b : SinkState) (x y q : List ℕ) → a.gained ≡ Some x → b.gained ≡ Some y → Appends a.gained b.gained q → y ≡ x ++ q
-told_bytes a b x y q e k h = go (sym k ∙ h ∙ ap (λ g. append_known g q) e)
+reported_bytes : (a b : SinkState) (x y q : List ℕ) → a.gained ≡ Some x → b.gained ≡ Some y → Appends a.gained b.gained q → y ≡ x ++ q
+reported_bytes a b x y q e k h = go (sym k ∙ h ∙ ap (λ g. append_known g q) e)
   where
     go : Some y ≡ Some (x ++ q) → y ≡ x ++ q
     go s = cc
 
 pub put_bytes : (a b : SinkState) (x y p : List ℕ) (r : Result (Unit {0}) Error) → a.gained ≡ Some x → b.gained ≡ Some y → Puts a b p r → OnOk r (y ≡ x ++ p)
-put_bytes a b x y p r e k h = on_ok_weaker r (told_bytes a b x y p e k) h.ok
+put_bytes a b x y p r e k h = on_ok_weaker r (reported_bytes a b x y p e k) h.ok
 
 -- some bytes more, whatever was answered
 pub grown : (a b : SinkState) (x y p : List ℕ) (r : Result (Unit {0}) Error) → a.gained ≡ Some x → b.gained ≡ Some y → Puts a b p r → (q : List ℕ) × (y ≡ x ++ q)
-grown a b x y p (Ok u) e k h = (p, told_bytes a b x y p e k h.ok)
-grown a b x y p (Err failure) e k h = (h.err.front, told_bytes a b x y h.err.front e k h.err.gains)
+grown a b x y p (Ok u) e k h = (p, reported_bytes a b x y p e k h.ok)
+grown a b x y p (Err failure) e k h = (h.err.front, reported_bytes a b x y h.err.front e k h.err.gains)

@@ -14,48 +14,48 @@ use Rattle.std.proofs.lemmas.List.Sorted.{Contains-permutation, IsPermutation-sy
 use Rattle.std.proofs.lemmas.Map.Keys.{IsDistinct-IsPermutation}
 use Rattle.json_model.specs.Sort.{bytes_less}
 use Rattle.std.proofs.lemmas.List.{get_or-map, length-map}
-use Rattle.json_print.specs.Orders.{Pair, In, Rise, numbered_in, inserted_pairs}
+use Rattle.json_print.specs.Orders.{NumberedKey, IsMember, Rise, numbered_in, inserted_pairs}
 use Rattle.json_print.specs.Printer.{MemberText, row_in, rows_sorted}
 
-abbrev pub numbered_cmp : Pair → Pair → Ordering
-numbered_cmp = then_cmp (on (λ (x : Pair). x.0) (slice_cmp nat_cmp)) (on (λ (x : Pair). x.1) nat_cmp)
+abbrev pub numbered_cmp : NumberedKey → NumberedKey → Ordering
+numbered_cmp = then_cmp (on (λ (x : NumberedKey). x.0) (slice_cmp nat_cmp)) (on (λ (x : NumberedKey). x.1) nat_cmp)
 
-abbrev pub Below : Pair → Pair → Type 0
+abbrev pub Below : NumberedKey → NumberedKey → Type 0
 Below x y = numbered_cmp x y ≡ Less
 
 pub total : IsTotalOrder numbered_cmp
-total = then_total (on_total (λ (x : Pair). x.0) nat_list_cmp_total) (on_total (λ (x : Pair). x.1) nat_cmp_total)
+total = then_total (on_total (λ (x : NumberedKey). x.0) nat_list_cmp_total) (on_total (λ (x : NumberedKey). x.1) nat_cmp_total)
 
 -- ---- lists of any kind
 
-pub in_from : {X : Type 0} (xs : List X) (x : X) (k : ℕ) → k < length xs → get_or xs k x ≡ x → In x xs
+pub in_from : {X : Type 0} (xs : List X) (x : X) (k : ℕ) → k < length xs → get_or xs k x ≡ x → IsMember x xs
 in_from [] x k l e = absurd (omega arith)
 in_from (y ∷ ys) x zero l e = inl (sym e)
 in_from (y ∷ ys) x (suc k) l e = inr (in_from ys x k (omega arith) e)
 
-from_in : {X : Type 0} (xs : List X) (x : X) → In x xs → Contains xs x
+from_in : {X : Type 0} (xs : List X) (x : X) → IsMember x xs → Contains xs x
 from_in [] x h = absurd h
 from_in (y ∷ ys) x (inl e) = (0, omega arith, sym e)
 from_in (y ∷ ys) x (inr h) = let r = from_in ys x h in (suc r.0, omega (arith, r.1), r.2)
 
-abbrev pub Above : Pair → List Pair → Type 0
-Above x ys = (y : Pair) → In y ys → Below x y
+abbrev pub Above : NumberedKey → List NumberedKey → Type 0
+Above x ys = (y : NumberedKey) → IsMember y ys → Below x y
 
-abbrev pub Ascends : List Pair → Type 0
+abbrev pub Ascends : List NumberedKey → Type 0
 Ascends [] = Unit {0}
 Ascends (x ∷ xs) = Above x xs × Ascends xs
 
-not_both : (x y : Pair) → Below x y → Below y x → ⊥
+not_both : (x y : NumberedKey) → Below x y → Below y x → ⊥
 not_both x y p q = let r = sym p ∙ total.antisymm x y ∙ ap ordering_reverse q in less_greater r
   where
     less_greater : Less ≡ Greater → ⊥
     less_greater e = cc
 
-not_self : (x : Pair) → Below x x → ⊥
+not_self : (x : NumberedKey) → Below x x → ⊥
 not_self x p = not_both x x p p
 
 -- two ascending lists with the same elements are one
-unique : (xs ys : List Pair) → Ascends xs → Ascends ys → ((z : Pair) → In z xs → In z ys) → ((z : Pair) → In z ys → In z xs) → xs ≡ ys
+unique : (xs ys : List NumberedKey) → Ascends xs → Ascends ys → ((z : NumberedKey) → IsMember z xs → IsMember z ys) → ((z : NumberedKey) → IsMember z ys → IsMember z xs) → xs ≡ ys
 unique [] [] a b f g = refl
 unique [] (y ∷ ys) a b f g = absurd (g y (inl refl))
 unique (x ∷ xs) [] a b f g = absurd (f x (inl refl))
@@ -64,10 +64,10 @@ unique (x ∷ xs) (y ∷ ys) a b f g = ap₂ (λ z zs. z ∷ zs) same (unique xs
     same : x ≡ y
     same = elim (f x (inl refl)) [ inl e ↦ e | inr h ↦ elim (g y (inl refl)) [ inl e ↦ sym e | inr k ↦ absurd (not_both x y (a.0 y k) (b.0 x h)) ] ]
 
-    down : (z : Pair) → In z xs → In z ys
+    down : (z : NumberedKey) → IsMember z xs → IsMember z ys
     down z h = elim (f z (inr h)) [ inl e ↦ absurd (not_self x (subst (Below x) (e ∙ sym same) (a.0 z h))) | inr k ↦ k ]
 
-    up : (z : Pair) → In z ys → In z xs
+    up : (z : NumberedKey) → IsMember z ys → IsMember z xs
     up z h = elim (g z (inr h)) [ inl e ↦ absurd (not_self y (subst (Below y) (e ∙ same) (b.0 z h))) | inr k ↦ k ]
 
 -- ---- by insertion
@@ -89,36 +89,36 @@ less_cmp (x ∷ a) (y ∷ b) = go (cases_lt x y) (cases_lt y x) (less_cmp a b)
     go (inr g) (inl l) ih = rw (le-ltb x y g, lt-ltb y x l, ne_eqb x y (λ e. omega arith)) refl
     go (inr g) (inr k) ih = let e : x ≡ y = omega arith in rw (le-ltb x y g, le-ltb y x k, eq-eqb x y e) ih
 
-in_or : (x z : Pair) (ys : List Pair) → In z (numbered_in x ys) → (z ≡ x) ⊎ In z ys
+in_or : (x z : NumberedKey) (ys : List NumberedKey) → IsMember z (numbered_in x ys) → (z ≡ x) ⊎ IsMember z ys
 in_or x z [] h = h
 in_or x z (y ∷ ys) h = go (bytes_less y.0 x.0) (in_or x z ys) h
   where
-    go : (b : Bool) → (In z (numbered_in x ys) → (z ≡ x) ⊎ In z ys) → In z (cond b (y ∷ numbered_in x ys) (x ∷ y ∷ ys)) → (z ≡ x) ⊎ ((z ≡ y) ⊎ In z ys)
+    go : (b : Bool) → (IsMember z (numbered_in x ys) → (z ≡ x) ⊎ IsMember z ys) → IsMember z (cond b (y ∷ numbered_in x ys) (x ∷ y ∷ ys)) → (z ≡ x) ⊎ ((z ≡ y) ⊎ IsMember z ys)
     go true ih (inl e) = inr (inl e)
     go true ih (inr k) = elim (ih k) [ inl e ↦ inl e | inr j ↦ inr (inr j) ]
     go false ih k = k
 
-or_in : (x z : Pair) (ys : List Pair) → (z ≡ x) ⊎ In z ys → In z (numbered_in x ys)
+or_in : (x z : NumberedKey) (ys : List NumberedKey) → (z ≡ x) ⊎ IsMember z ys → IsMember z (numbered_in x ys)
 or_in x z [] h = h
 or_in x z (y ∷ ys) h = go (bytes_less y.0 x.0) (or_in x z ys) h
   where
-    go : (b : Bool) → ((z ≡ x) ⊎ In z ys → In z (numbered_in x ys)) → (z ≡ x) ⊎ ((z ≡ y) ⊎ In z ys) → In z (cond b (y ∷ numbered_in x ys) (x ∷ y ∷ ys))
+    go : (b : Bool) → ((z ≡ x) ⊎ IsMember z ys → IsMember z (numbered_in x ys)) → (z ≡ x) ⊎ ((z ≡ y) ⊎ IsMember z ys) → IsMember z (cond b (y ∷ numbered_in x ys) (x ∷ y ∷ ys))
     go true ih (inl e) = inr (ih (inl e))
     go true ih (inr (inl e)) = inl e
     go true ih (inr (inr k)) = inr (ih (inr k))
     go false ih k = k
 
-pub all_in : (z : Pair) (xs : List Pair) → In z (inserted_pairs xs) → In z xs
+pub all_in : (z : NumberedKey) (xs : List NumberedKey) → IsMember z (inserted_pairs xs) → IsMember z xs
 all_in z [] h = h
 all_in z (x ∷ xs) h = elim (in_or x z (inserted_pairs xs) h) [ inl e ↦ inl e | inr k ↦ inr (all_in z xs k) ]
 
-in_all : (z : Pair) (xs : List Pair) → In z xs → In z (inserted_pairs xs)
+in_all : (z : NumberedKey) (xs : List NumberedKey) → IsMember z xs → IsMember z (inserted_pairs xs)
 in_all z [] h = h
 in_all z (x ∷ xs) (inl e) = or_in x z (inserted_pairs xs) (inl e)
 in_all z (x ∷ xs) (inr h) = or_in x z (inserted_pairs xs) (inr (in_all z xs h))
 
 -- the first is below those whose numbers are greater, where its key is not greater
-first_below : (x y : Pair) → bytes_less y.0 x.0 ≡ false → x.1 < y.1 → Below x y
+first_below : (x y : NumberedKey) → bytes_less y.0 x.0 ≡ false → x.1 < y.1 → Below x y
 first_below x y e l = go (slice_cmp nat_cmp x.0 y.0) refl
   where
     number : nat_cmp x.1 y.1 ≡ Less
@@ -132,7 +132,7 @@ first_below x y e l = go (slice_cmp nat_cmp x.0 y.0) refl
     go Equal p = ap (λ q. ordering_then q (nat_cmp x.1 y.1)) p ∙ number
     go Greater p = absurd (false_true (sym back ∙ ap is_lt (nat_list_cmp_total.antisymm y.0 x.0 ∙ ap ordering_reverse p)))
 
-smaller_below : (x y : Pair) → bytes_less y.0 x.0 ≡ true → Below y x
+smaller_below : (x y : NumberedKey) → bytes_less y.0 x.0 ≡ true → Below y x
 smaller_below x y e = go (slice_cmp nat_cmp y.0 x.0) refl
   where
     go : (o : Ordering) → slice_cmp nat_cmp y.0 x.0 ≡ o → Below y x
@@ -140,7 +140,7 @@ smaller_below x y e = go (slice_cmp nat_cmp y.0 x.0) refl
     go Equal p = absurd (true_false (sym e ∙ less_cmp y.0 x.0 ∙ ap is_lt p))
     go Greater p = absurd (true_false (sym e ∙ less_cmp y.0 x.0 ∙ ap is_lt p))
 
-in_ascends : (x : Pair) (ys : List Pair) → Ascends ys → ((z : Pair) → In z ys → x.1 < z.1) → Ascends (numbered_in x ys)
+in_ascends : (x : NumberedKey) (ys : List NumberedKey) → Ascends ys → ((z : NumberedKey) → IsMember z ys → x.1 < z.1) → Ascends (numbered_in x ys)
 in_ascends x [] a n = (λ z h. absurd h, tt)
 in_ascends x (y ∷ ys) a n = go (bytes_less y.0 x.0) refl (in_ascends x ys a.1 (λ z h. n z (inr h)))
   where
@@ -150,13 +150,13 @@ in_ascends x (y ∷ ys) a n = go (bytes_less y.0 x.0) refl (in_ascends x ys a.1 
         let f : Below x y = first_below x y e (n y (inl refl)) in
         (λ z h. elim h [ inl q ↦ subst (Below x) (sym q) f | inr k ↦ total.trans x y z f (a.0 z k) ], a)
 
-all_ascends : (xs : List Pair) → Rise xs → Ascends (inserted_pairs xs)
+all_ascends : (xs : List NumberedKey) → Rise xs → Ascends (inserted_pairs xs)
 all_ascends [] r = tt
 all_ascends (x ∷ xs) r = in_ascends x (inserted_pairs xs) (all_ascends xs r.1) (λ z h. r.0 z (all_in z xs h))
 
 -- ---- by a sort
 
-sort_inserts : (xs ys : List Pair) → Rise xs → IsPermutation xs ys → Ascends ys → ys ≡ inserted_pairs xs
+sort_inserts : (xs ys : List NumberedKey) → Rise xs → IsPermutation xs ys → Ascends ys → ys ≡ inserted_pairs xs
 sort_inserts xs ys r p a =
     unique ys (inserted_pairs xs) a (all_ascends xs r)
     (λ z h. in_all z xs (let c = Contains-permutation ys xs z (IsPermutation-sym xs ys p) (from_in ys z h) in in_from xs z c.0 c.1 c.2))
@@ -164,10 +164,10 @@ sort_inserts xs ys r p a =
 
 -- ---- and so the rows
 
-abbrev pub row_at : (ℕ → List ℕ) → Pair → MemberText
+abbrev pub row_at : (ℕ → List ℕ) → NumberedKey → MemberText
 row_at text x = record { key = x.0; text = text x.1 }
 
-row_inserted : (text : ℕ → List ℕ) (x : Pair) (ys : List Pair) → map (row_at text) (numbered_in x ys) ≡ row_in (row_at text x) (map (row_at text) ys)
+row_inserted : (text : ℕ → List ℕ) (x : NumberedKey) (ys : List NumberedKey) → map (row_at text) (numbered_in x ys) ≡ row_in (row_at text x) (map (row_at text) ys)
 row_inserted text x [] = refl
 row_inserted text x (y ∷ ys) = go (bytes_less y.0 x.0) (row_inserted text x ys)
   where
@@ -176,25 +176,25 @@ row_inserted text x (y ∷ ys) = go (bytes_less y.0 x.0) (row_inserted text x ys
     go true ih = ap (λ zs. row_at text y ∷ zs) ih
     go false ih = refl
 
-pub rows_inserted : (text : ℕ → List ℕ) (xs : List Pair) → map (row_at text) (inserted_pairs xs) ≡ rows_sorted (map (row_at text) xs)
+pub rows_inserted : (text : ℕ → List ℕ) (xs : List NumberedKey) → map (row_at text) (inserted_pairs xs) ≡ rows_sorted (map (row_at text) xs)
 rows_inserted text [] = refl
 rows_inserted text (x ∷ xs) = row_inserted text x (inserted_pairs xs) ∙ ap (row_in (row_at text x)) (rows_inserted text xs)
 
 -- ---- what std's sort ensures
 
-abbrev number_eq : Pair → Pair → Bool
+abbrev number_eq : NumberedKey → NumberedKey → Bool
 number_eq x y = x.1 == y.1
 
-each_apart : (x : Pair) (xs : List Pair) → ((z : Pair) → In z xs → x.1 < z.1) → AllByRecursion (λ y. number_eq x y ≡ false) xs
+each_apart : (x : NumberedKey) (xs : List NumberedKey) → ((z : NumberedKey) → IsMember z xs → x.1 < z.1) → AllByRecursion (λ y. number_eq x y ≡ false) xs
 each_apart x [] h = tt
 each_apart x (y ∷ xs) h = (ne_eqb x.1 y.1 (λ e. omega (arith, h y (inl refl))), each_apart x xs (λ z k. h z (inr k)))
 
-rise_apart : (xs : List Pair) → Rise xs → IsDistinct number_eq xs
+rise_apart : (xs : List NumberedKey) → Rise xs → IsDistinct number_eq xs
 unfolding IsDistinct
 rise_apart [] r = tt
 rise_apart (x ∷ xs) r = (each_apart x xs r.0, rise_apart xs r.1)
 
-flips : (x y : Pair) → number_eq x y ≡ number_eq y x
+flips : (x y : NumberedKey) → number_eq x y ≡ number_eq y x
 flips x y = go (cases_eq x.1 y.1)
   where
     go : (x.1 ≡ y.1) ⊎ (x.1 ≡ y.1 → ⊥) → (x.1 == y.1) ≡ (y.1 == x.1)
@@ -205,7 +205,7 @@ no_equal : (b : Bool) → cond b Less Greater ≡ Equal → ⊥
 no_equal true e = cc
 no_equal false e = cc
 
-next_below : (x y : Pair) → is_lt (numbered_cmp y x) ≡ false → number_eq x y ≡ false → Below x y
+next_below : (x y : NumberedKey) → is_lt (numbered_cmp y x) ≡ false → number_eq x y ≡ false → Below x y
 next_below x y l n = go (numbered_cmp x y) refl
   where
     equal_number : (o : Ordering) → ordering_then o (nat_cmp x.1 y.1) ≡ Equal → nat_cmp x.1 y.1 ≡ Equal
@@ -221,7 +221,7 @@ next_below x y l n = go (numbered_cmp x y) refl
     go Equal p = absurd (same_number (equal_number (slice_cmp nat_cmp x.0 y.0) p))
     go Greater p = absurd (false_true (sym l ∙ ap is_lt (total.antisymm y x ∙ ap ordering_reverse p)))
 
-ascends_from : (ys : List Pair) → ((k : ℕ) (d : Pair) → k + 1 < length ys → is_lt (numbered_cmp (get_or ys (k + 1) d) (get_or ys k d)) ≡ false) → IsDistinct number_eq ys → Ascends ys
+ascends_from : (ys : List NumberedKey) → ((k : ℕ) (d : NumberedKey) → k + 1 < length ys → is_lt (numbered_cmp (get_or ys (k + 1) d) (get_or ys k d)) ≡ false) → IsDistinct number_eq ys → Ascends ys
 unfolding IsDistinct
 ascends_from [] h n = tt
 ascends_from (x ∷ []) h n = (λ z k. absurd k, tt)
@@ -230,13 +230,13 @@ ascends_from (x ∷ y ∷ ys) h n =
     let f : Below x y = next_below x y (h 0 x (omega arith)) n.0.0 in
     (λ z k. elim k [ inl e ↦ subst (Below x) (sym e) f | inr j ↦ total.trans x y z f (rest.0 z j) ], rest)
 
-mapped : {X : Type 0} (f : X → Pair) (ys : List X) → IsSortedBy (λ x y. is_lt (numbered_cmp (f x) (f y))) ys → (k : ℕ) (d : Pair) → k + 1 < length (map f ys) → is_lt (numbered_cmp (get_or (map f ys) (k + 1) d) (get_or (map f ys) k d)) ≡ false
+mapped : {X : Type 0} (f : X → NumberedKey) (ys : List X) → IsSortedBy (λ x y. is_lt (numbered_cmp (f x) (f y))) ys → (k : ℕ) (d : NumberedKey) → k + 1 < length (map f ys) → is_lt (numbered_cmp (get_or (map f ys) (k + 1) d) (get_or (map f ys) k d)) ≡ false
 mapped f [] h k d l = absurd (omega arith)
 mapped f (y ∷ ys) h k d l =
     let n : k + 1 < length (y ∷ ys) = subst (λ m. k + 1 < m) (length-map (y ∷ ys) f) l in
     rw (get_or-map f (y ∷ ys) (k + 1) y d n, get_or-map f (y ∷ ys) k y d (omega (arith, n))) (h k y (omega arith) n)
 
 -- so it is of what has a key and a number
-pub sort_orders : {X : Type 0} (f : X → Pair) (xs ys : List X) → Rise (map f xs) → IsPermutation xs ys → IsSortedBy (λ x y. is_lt (numbered_cmp (f x) (f y))) ys → map f ys ≡ inserted_pairs (map f xs)
+pub sort_orders : {X : Type 0} (f : X → NumberedKey) (xs ys : List X) → Rise (map f xs) → IsPermutation xs ys → IsSortedBy (λ x y. is_lt (numbered_cmp (f x) (f y))) ys → map f ys ≡ inserted_pairs (map f xs)
 sort_orders f xs ys r p s =
     let moved = IsPermutation-map f xs ys p in sort_inserts (map f xs) (map f ys) r moved (ascends_from (map f ys) (mapped f ys s) (IsDistinct-IsPermutation number_eq flips _ _ moved (rise_apart _ r)))

@@ -7,7 +7,7 @@ use Rattle.json_io.specs.declared.error.Error.{Error}
 use Rattle.json_io.specs.Outside.{SinkState}
 use Rattle.json_io.specs.Transfer.{Puts}
 use Rattle.json_io.proofs.Putting.{Puts-first, Puts-then}
-use Rattle.json_print.specs.Layouts.{Form}
+use Rattle.json_print.specs.Layouts.{FormatterModel}
 use Rattle.json_print.specs.Printer.{MemberText}
 use Rattle.json_print.specs.Rows.{row_bytes, row_next, rows_bytes, rows_next}
 
@@ -26,7 +26,7 @@ at_first [] n r e = absurd (cc)
 at_first (x ∷ xs) zero r e = refl
 at_first (x ∷ xs) (suc n) r e = sym (ne_eqb (suc n) 0 (λ h. omega arith))
 
-module _ {F : Type 0} (m : Form F) where
+module _ {F : Type 0} (m : FormatterModel F) where
   bytes_more : (xs : List MemberText) (f : F) (first : Bool) (r : MemberText) → rows_bytes m f first (xs ++ r ∷ []) ≡ rows_bytes m f first xs ++ row_bytes m (rows_next m f first xs) (none_before first xs) r
   bytes_more [] f first r = append-nil (row_bytes m f first r)
   bytes_more (x ∷ xs) f first r = ap (λ l. row_bytes m f first x ++ l) (bytes_more xs (row_next m f first x) false r ∙ ap (λ b. rows_bytes m (row_next m f first x) false xs ++ row_bytes m (rows_next m (row_next m f first x) false xs) b r) (never xs)) ∙ sym (append_assoc (row_bytes m f first x) _ _)

@@ -9,8 +9,8 @@ use Rattle.json_io.specs.Lending.{lent_as, ComesBack}
 use Rattle.json_io.specs.Outside.{SinkState, Loan}
 use Rattle.json_io.specs.Transfer.{AppendsFront}
 use Rattle.json_print.specs.Given.{TokenOrInteger, token_of, given_tokens}
-use Rattle.json_print.specs.Layouts.{Form, LaidOut}
-use Rattle.json_print.specs.Printer.{Out, StopsAtToken, StopsTaking, after, took, start}
+use Rattle.json_print.specs.Layouts.{FormatterModel, LaidOut}
+use Rattle.json_print.specs.Printer.{SerializerState, StopsAtToken, StopsTaking, after, took, start}
 use Rattle.json_layout.specs.Shown.{shown_as}
 use Rattle.json_print.specs.Taking.{after_all, StopsAmong}
 use Rattle.json_layout.specs.TextWriting.{WritesText}
@@ -19,25 +19,25 @@ use Rattle.json_print.proofs.Taking.{took_all, tokens_append}
 
 -- ---- what has the tokens of a tree, given to a serializer
 
-pub all_written : {F : Type 0} {m : Form F} {f : F} {sorts : Bool} {w new : SinkState} {first now : Out F} {i : Option (List ℕ)} (t : Tree) (gs : List TokenOrInteger) (u : Unit {0})
+pub all_written : {F : Type 0} {m : FormatterModel F} {f : F} {sorts : Bool} {w new : SinkState} {first now : SerializerState F} {i : Option (List ℕ)} (t : Tree) (gs : List TokenOrInteger) (u : Unit {0})
     → LaidOut m f i 0 false → first ≡ start f sorts w → given_tokens gs ≡ tokens t → now ≡ after_all (took m) first gs → Written m now new → WritesText w new (shown_as i sorts t) (Ok u)
 all_written {m = m} {f = f} {sorts = sorts} {w = w} {first = first} {i = i} t gs u laid s z h k =
     let all = h ∙ took_all m first gs ∙ ap₂ (λ a b. after_all (after m) a b) s z in
     let c = k.calm f sorts w (tokens t) all in
-    record { ok = k.whole f sorts w i t laid all; calm = c.0; prefix = tt; cause = tt; told = λ l. absurd (omega (arith, l, c.0)); same_loan = c.1 }
+    record { ok = k.whole f sorts w i t laid all; calm = c.0; prefix = tt; cause = tt; reported = λ l. absurd (omega (arith, l, c.0)); same_loan = c.1 }
 
-pub stopped_written : {F : Type 0} {m : Form F} {f : F} {sorts : Bool} {w new : SinkState} {first now : Out F} {gs : List TokenOrInteger} {i : Option (List ℕ)} {e : Error} (t : Tree)
+pub stopped_written : {F : Type 0} {m : FormatterModel F} {f : F} {sorts : Bool} {w new : SinkState} {first now : SerializerState F} {gs : List TokenOrInteger} {i : Option (List ℕ)} {e : Error} (t : Tree)
     → LaidOut m f i 0 false → first ≡ start f sorts w → given_tokens gs ≡ tokens t → StopsAmong (took m) (StopsTaking m) first now gs e → Written m now new → WritesText w new (shown_as i sorts t) (Err e)
 stopped_written {F = F} {m = m} {f = f} {sorts = sorts} {w = w} {first = first} {now = now} {i = i} {e = e} t laid s z met k =
     let at = token_of met.at in let front = given_tokens met.front in
-    let stop = subst (λ (o : Out F). StopsAtToken m o at now e) (took_all m first met.front ∙ ap (λ o. after_all (after m) o front) s) met.left in
+    let stop = subst (λ (o : SerializerState F). StopsAtToken m o at now e) (took_all m first met.front ∙ ap (λ o. after_all (after m) o front) s) met.left in
     let c = k.caused f sorts w front at e stop in
     record {
       ok = tt;
       calm = tt;
       prefix = k.stopped f sorts w i t front (given_tokens met.back) at e laid (sym z ∙ ap given_tokens met.whole ∙ tokens_append met.front (met.at ∷ met.back)) stop;
       cause = c.cause;
-      told = λ l. ap Err (c.told l);
+      reported = λ l. ap Err (c.reported l);
       same_loan = c.same_loan;
     }
 

@@ -31,12 +31,12 @@ before_gap (None ∷ ps) = []
 before_gap (Some g ∷ ps) = g ∷ before_gap ps
 
 -- each key has a text
-abbrev pub is_whole : List (Option TokenOrInteger) → Bool
-is_whole [] = true
-is_whole (None ∷ ps) = false
-is_whole (Some g ∷ ps) = is_whole ps
+abbrev pub keys_have_texts : List (Option TokenOrInteger) → Bool
+keys_have_texts [] = true
+keys_have_texts (None ∷ ps) = false
+keys_have_texts (Some g ∷ ps) = keys_have_texts ps
 
 -- each key of a datum has a text exactly where the datum has a tree; then what is given of it are the tree's tokens
 abbrev pub DatumTokens : Type 0
 DatumTokens =
-    (d : Datum) → MatchOption (tree_of_datum d) (is_whole (parts d) ≡ false) (λ t. (is_whole (parts d) ≡ true) × (given_tokens (before_gap (parts d)) ≡ tokens t))
+    (d : Datum) → MatchOption (tree_of_datum d) (keys_have_texts (parts d) ≡ false) (λ t. (keys_have_texts (parts d) ≡ true) × (given_tokens (before_gap (parts d)) ≡ tokens t))

@@ -1,13 +1,13 @@
 pub mod Calls
 pub mod Layouts
-pub mod Standing
+pub mod ExpectedEvents
 pub mod Given
 pub mod Data
 pub mod Taking
 pub mod Printer
 pub mod Parts
 pub mod Steps
-pub mod Stands
+pub mod ExpectedAfter
 pub mod Written
 pub mod Serializing
 pub mod Orders

@@ -14,7 +14,7 @@ abbrev pub layer_of : List ℕ → List ℕ → List Member → ℕ → ℕ → 
 layer_of keys texts members key_from text_from = record { rows = map (member_text_of keys texts) members; key = drop key_from keys; text = drop text_from texts }
 
 -- its key is among the keys, and its text among the texts
-pub record IsWithin (keys texts : List ℕ) (m : Member) : Type 0 where
+pub record IsMemberWithin (keys texts : List ℕ) (m : Member) : Type 0 where
   pub key_begins : IsCharBoundary keys m.key_from
   pub key_ends : IsCharBoundary keys m.key_to
   pub key_order : m.key_from ≤ m.key_to
@@ -23,7 +23,7 @@ pub record IsWithin (keys texts : List ℕ) (m : Member) : Type 0 where
 
 abbrev pub AreWithin : List ℕ → List ℕ → List Member → Type 0
 AreWithin keys texts [] = Unit {0}
-AreWithin keys texts (m ∷ ms) = IsWithin keys texts m × AreWithin keys texts ms
+AreWithin keys texts (m ∷ ms) = IsMemberWithin keys texts m × AreWithin keys texts ms
 
 -- so do all members, and the open one begins where a character may
 pub record HoldMembers (keys texts : List ℕ) (members : List Member) (key_from text_from : ℕ) : Type 0 where

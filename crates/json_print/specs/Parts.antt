@@ -3,9 +3,9 @@ use Rattle.std.specs.Prelude.{true}
 use Rattle.std.specs.Fmt.{decimal, signed_decimal}
 use Rattle.json_print.specs.declared.part.Part.{Part}
 use Rattle.json_print.specs.declared.part.Part.TheVariants.{Null, Bool, Int, Uint, Number, Text, Begin, End, BeginElement, EndElement, BeginKey, EndKey, BeginMember, EndMember}
-use Rattle.json_print.specs.Calls.{Call, null_call, boolean_call, number_call, string_call, begin_call, end_call, begin_element, end_element, begin_key, end_key, begin_member, end_member}
+use Rattle.json_print.specs.Calls.{FormatterCall, null_call, boolean_call, number_call, string_call, begin_call, end_call, begin_element, end_element, begin_key, end_key, begin_member, end_member}
 
-abbrev pub meaning : Part → Call
+abbrev pub meaning : Part → FormatterCall
 meaning Null = null_call
 meaning (Bool b) = boolean_call b
 meaning (Int n) = number_call (signed_decimal n)

@@ -15,13 +15,13 @@ use json_io::Result;
 /// no call returns it.
 ///
 /// ```
-/// use json_print::Turn;
+/// use json_print::ExpectedEvent;
 /// // after the beginning of an array the first element may follow, or the end
-/// let turn = Turn::Element(true);
-/// assert!(rt; matches!(turn, Turn::Element(first) if first));
+/// let turn = ExpectedEvent::Element(true);
+/// assert!(rt; matches!(turn, ExpectedEvent::Element(first) if first));
 /// ```
 #[derive(Clone, Copy, Debug)]
-pub enum Turn {
+pub enum ExpectedEvent {
     /// The value, with nothing around it.
     Value,
     /// An element, which is the first or not, or the end.
@@ -61,7 +61,7 @@ pub trait Events {
     ghost after: { State → TokenOrInteger → State };
 
     /// What may follow.
-    ghost stand: { State → TokenState };
+    ghost token_state: { State → TokenState };
 
     /// What a call that meets an error at what is given may leave.
     ghost stopped: { State → TokenOrInteger → State → Error → Type 0 };
@@ -71,13 +71,13 @@ pub trait Events {
 
     /// Takes a null. Fails if what takes the parts does, and again after any error.
     fn null(&mut self) -> Result<()>
-        requires { failed self.old ≡ None → MayCome (stand (state self.old)) null_token }
+        requires { failed self.old ≡ None → MayCome (token_state (state self.old)) null_token }
         ensures { Takes after stopped (state self.old) (state self.new)
             (failed self.old) (failed self.new) (given null_token) result };
 
     /// Takes a truth value. Fails if what takes the parts does, and again after any error.
     fn boolean(&mut self, b: bool) -> Result<()>
-        requires { failed self.old ≡ None → MayCome (stand (state self.old)) (boolean_token b) }
+        requires { failed self.old ≡ None → MayCome (token_state (state self.old)) (boolean_token b) }
         ensures { Takes after stopped (state self.old) (state self.new)
             (failed self.old) (failed self.new) (given (boolean_token b)) result };
 
@@ -85,7 +85,7 @@ pub trait Events {
     /// any error.
     fn int(&mut self, n: i128) -> Result<()>
         requires { failed self.old ≡ None
-            → MayCome (stand (state self.old)) (num_token (signed_decimal n)) }
+            → MayCome (token_state (state self.old)) (num_token (signed_decimal n)) }
         ensures { Takes after stopped (state self.old) (state self.new)
             (failed self.old) (failed self.new) (given_integer n) result };
 
@@ -93,7 +93,7 @@ pub trait Events {
     /// again after any error.
     fn uint(&mut self, n: u128) -> Result<()>
         requires { failed self.old ≡ None
-            → MayCome (stand (state self.old)) (num_token (decimal n)) }
+            → MayCome (token_state (state self.old)) (num_token (decimal n)) }
         ensures { Takes after stopped (state self.old) (state self.new)
             (failed self.old) (failed self.new) (given_integer (pos n)) result };
 
@@ -102,53 +102,53 @@ pub trait Events {
     fn raw_number(&mut self, literal: &str) -> Result<()>
         requires number { number literal.now }
         requires come { failed self.old ≡ None
-            → MayCome (stand (state self.old)) (num_token literal.now) }
+            → MayCome (token_state (state self.old)) (num_token literal.now) }
         ensures { Takes after stopped (state self.old) (state self.new)
             (failed self.old) (failed self.new) (given (num_token literal.now)) result };
 
     /// Takes a string, by its characters. Fails if what takes the parts does, and again after any
     /// error.
     fn text(&mut self, s: &str) -> Result<()>
-        requires { failed self.old ≡ None → MayCome (stand (state self.old)) (text_token s.now) }
+        requires { failed self.old ≡ None → MayCome (token_state (state self.old)) (text_token s.now) }
         ensures { Takes after stopped (state self.old) (state self.new)
             (failed self.old) (failed self.new) (given (text_token s.now)) result };
 
     /// Takes the beginning of an array. The hint is how many elements follow, if that is known.
     /// Fails if what takes the parts does, and again after any error.
     fn begin_array(&mut self, hint: Option<usize>) -> Result<()>
-        requires { failed self.old ≡ None → MayCome (stand (state self.old)) (begin array) }
+        requires { failed self.old ≡ None → MayCome (token_state (state self.old)) (begin array) }
         ensures { Takes after stopped (state self.old) (state self.new)
             (failed self.old) (failed self.new) (given (begin array)) result };
 
     /// Takes the end of the array that was begun last. Fails if what takes the parts does, and
     /// again after any error.
     fn end_array(&mut self) -> Result<()>
-        requires { failed self.old ≡ None → MayCome (stand (state self.old)) (end array) }
+        requires { failed self.old ≡ None → MayCome (token_state (state self.old)) (end array) }
         ensures { Takes after stopped (state self.old) (state self.new)
             (failed self.old) (failed self.new) (given (end array)) result };
 
     /// Takes the beginning of an object. The hint is how many members follow, if that is known.
     /// Fails if what takes the parts does, and again after any error.
     fn begin_object(&mut self, hint: Option<usize>) -> Result<()>
-        requires { failed self.old ≡ None → MayCome (stand (state self.old)) (begin object) }
+        requires { failed self.old ≡ None → MayCome (token_state (state self.old)) (begin object) }
         ensures { Takes after stopped (state self.old) (state self.new)
             (failed self.old) (failed self.new) (given (begin object)) result };
 
     /// Takes the key of the next member, by its characters. Its value must follow. Fails if what
     /// takes the parts does, and again after any error.
     fn key(&mut self, s: &str) -> Result<()>
-        requires { failed self.old ≡ None → MayCome (stand (state self.old)) (key_token s.now) }
+        requires { failed self.old ≡ None → MayCome (token_state (state self.old)) (key_token s.now) }
         ensures { Takes after stopped (state self.old) (state self.new)
             (failed self.old) (failed self.new) (given (key_token s.now)) result };
 
     /// Takes the end of the object that was begun last. Fails if what takes the parts does, and
     /// again after any error.
     fn end_object(&mut self) -> Result<()>
-        requires { failed self.old ≡ None → MayCome (stand (state self.old)) (end object) }
+        requires { failed self.old ≡ None → MayCome (token_state (state self.old)) (end object) }
         ensures { Takes after stopped (state self.old) (state self.new)
             (failed self.old) (failed self.new) (given (end object)) result };
 
     /// What may follow changes as in the tokens of a tree.
     ghost moves: { (s : State) (g : TokenOrInteger)
-        → stand (after s g) ≡ after_token (stand s) (token_of g) };
+        → token_state (after s g) ≡ after_token (token_state s) (token_of g) };
 }

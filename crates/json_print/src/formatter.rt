@@ -3,7 +3,7 @@ ghost use Rattle.std.specs.Prelude.{◌≡◌, OnOk};
 ghost use Rattle.json_grammar.specs.declared.Kind.TheVariants.{Array as array, Object as object};
 ghost use Rattle.json_io.specs.Transfer.{Puts};
 ghost use Rattle.json_print.specs.Calls.{null_call, boolean_call, number_call, signed_call, unsigned_call, string_call, bytes_call, begin_string, end_string, begin_call, end_call, begin_element, end_element, begin_key, end_key, begin_member, end_member, raw_call};
-ghost use Rattle.json_print.specs.Layouts.{Form};
+ghost use Rattle.json_print.specs.Layouts.{FormatterModel};
 
 use json_io::{Result, Sink};
 
@@ -23,7 +23,7 @@ use json_io::{Result, Sink};
 /// ```
 pub trait Formatter {
     /// The piece that each call writes, and the formatter after it.
-    ghost form: { Form Self };
+    ghost form: { FormatterModel Self };
 
     /// The first state, in which nothing was written yet.
     ghost fresh: { Self → Type 0 };

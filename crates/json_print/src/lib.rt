@@ -27,10 +27,10 @@ mod serializer;
 mod sorted;
 
 pub use compact::CompactFormatter;
-pub use events::{Events, Turn};
+pub use events::{Events, ExpectedEvent};
 pub use formatter::Formatter;
 pub use json_layout::{
-    Buffer, BufferedWriter, Layout, ManyLines, OneLine, Quoted, Style, answered, show_piece,
+    BufferedWriter, Layout, ManyLines, OneLine, Quoted, Style, WriteBuffer, answered, show_piece,
     show_signed, show_text, show_unsigned,
 };
 pub use pretty::PrettyFormatter;

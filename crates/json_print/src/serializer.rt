@@ -2,10 +2,10 @@
 ghost use Rattle.std.specs.Prelude.{◌≡◌, None, Some, codes, true, false};
 ghost use Rattle.json_print.specs.Given.{token_of};
 ghost use Rattle.json_print.specs.Layouts.{LaidOut, plain_form, pretty_form};
-ghost use Rattle.json_print.specs.Printer.{IsFresh, Out, StopsTaking, expected_tokens_of, start, took};
+ghost use Rattle.json_print.specs.Printer.{IsFresh, SerializerState, StopsTaking, expected_tokens_of, start, took};
 ghost use Rattle.json_print.specs.Serializing.{error_of, formatter_of, out_of};
-ghost use Rattle.json_print.specs.Stands.{after_stands};
-ghost use Rattle.json_print.specs.Steps.{refusal_of};
+ghost use Rattle.json_print.specs.ExpectedAfter.{expected_after};
+ghost use Rattle.json_print.specs.Steps.{kept_result};
 ghost use Rattle.json_print.specs.Written.{Written};
 
 mod puts;
@@ -14,16 +14,16 @@ mod straight;
 
 use crate::part::Part;
 use crate::sorted::SortedObject;
-use crate::{CompactFormatter, Events, Formatter, PrettyFormatter, Turn};
+use crate::{CompactFormatter, Events, ExpectedEvent, Formatter, PrettyFormatter};
 use json_grammar::Kind;
 use json_io::{Error, Result, Sink};
 use std::alloc::Global;
 
 // A step stopped, and the serializer keeps why.
 #[derive(Clone, Copy)]
-struct Halted;
+struct SerializerFailed;
 
-type Step = std::result::Result<(), Halted>;
+type SerializerResult = std::result::Result<(), SerializerFailed>;
 
 /// Writes the text of a value (RFC 8259) from its parts, by the calls of a formatter.
 ///
@@ -44,7 +44,7 @@ type Step = std::result::Result<(), Halted>;
 pub struct Serializer<W, F> {
     writer: W,
     formatter: F,
-    turn: Turn,
+    turn: ExpectedEvent,
     // The open containers, the innermost last.
     opened: Vec<Kind>,
     sorts: bool,
@@ -90,7 +90,7 @@ impl<W: Sink, F: Formatter> Serializer<W, F> {
         Serializer {
             writer,
             formatter,
-            turn: Turn::Value,
+            turn: ExpectedEvent::Value,
             opened: Vec::new(alloc),
             sorts: false,
             objects: Vec::new(alloc),
@@ -128,8 +128,8 @@ impl<W: Sink, F: Formatter> Serializer<W, F> {
     // The error that is kept.
     #[cold]
     #[inline(never)]
-    fn refusal(&self) -> Result<()>
-        ensures { result ≡ refusal_of self.now.failed }
+    fn kept_error(&self) -> Result<()>
+        ensures { result ≡ kept_result self.now.failed }
     {
         match self.failed {
             None => Ok(()),
@@ -140,26 +140,26 @@ impl<W: Sink, F: Formatter> Serializer<W, F> {
 
 #[tactic(auto, using(crate::proofs::Answering::answered))]
 impl<W: Sink, F: Formatter> Events for Serializer<W, F> {
-    ghost State = { Out F };
+    ghost State = { SerializerState F };
 
     ghost state = { out_of W.state };
 
     ghost after = { took F.form };
 
-    ghost stand = { expected_tokens_of };
+    ghost token_state = { expected_tokens_of };
 
     ghost stopped = { StopsTaking F.form };
 
     ghost failed = { λ s. s.failed };
 
-    ghost moves = { λ s g. after_stands F.form s (token_of g) };
+    ghost moves = { λ s g. expected_after F.form s (token_of g) };
 
     #[inline(always)]
     fn null(&mut self) -> Result<()> {
         if self.failed.is_none() && self.null_value().is_ok() {
             return Ok(());
         }
-        self.refusal()
+        self.kept_error()
     }
 
     #[inline(always)]
@@ -167,7 +167,7 @@ impl<W: Sink, F: Formatter> Events for Serializer<W, F> {
         if self.failed.is_none() && self.boolean_value(b).is_ok() {
             return Ok(());
         }
-        self.refusal()
+        self.kept_error()
     }
 
     #[inline(always)]
@@ -175,7 +175,7 @@ impl<W: Sink, F: Formatter> Events for Serializer<W, F> {
         if self.failed.is_none() && self.scalar(Part::Int(n)).is_ok() {
             return Ok(());
         }
-        self.refusal()
+        self.kept_error()
     }
 
     #[inline(always)]
@@ -183,7 +183,7 @@ impl<W: Sink, F: Formatter> Events for Serializer<W, F> {
         if self.failed.is_none() && self.unsigned(n).is_ok() {
             return Ok(());
         }
-        self.refusal()
+        self.kept_error()
     }
 
     #[inline(always)]
@@ -191,7 +191,7 @@ impl<W: Sink, F: Formatter> Events for Serializer<W, F> {
         if self.failed.is_none() && self.number(literal).is_ok() {
             return Ok(());
         }
-        self.refusal()
+        self.kept_error()
     }
 
     #[inline(always)]
@@ -199,7 +199,7 @@ impl<W: Sink, F: Formatter> Events for Serializer<W, F> {
         if self.failed.is_none() && self.string(s).is_ok() {
             return Ok(());
         }
-        self.refusal()
+        self.kept_error()
     }
 
     #[inline(always)]
@@ -208,7 +208,7 @@ impl<W: Sink, F: Formatter> Events for Serializer<W, F> {
         if self.failed.is_none() && self.begin(Kind::Array).is_ok() {
             return Ok(());
         }
-        self.refusal()
+        self.kept_error()
     }
 
     #[inline(always)]
@@ -216,7 +216,7 @@ impl<W: Sink, F: Formatter> Events for Serializer<W, F> {
         if self.failed.is_none() && self.end(Kind::Array).is_ok() {
             return Ok(());
         }
-        self.refusal()
+        self.kept_error()
     }
 
     #[inline(always)]
@@ -225,7 +225,7 @@ impl<W: Sink, F: Formatter> Events for Serializer<W, F> {
         if self.failed.is_none() && self.begin(Kind::Object).is_ok() {
             return Ok(());
         }
-        self.refusal()
+        self.kept_error()
     }
 
     #[inline(always)]
@@ -233,7 +233,7 @@ impl<W: Sink, F: Formatter> Events for Serializer<W, F> {
         if self.failed.is_none() && self.key_text(s).is_ok() {
             return Ok(());
         }
-        self.refusal()
+        self.kept_error()
     }
 
     #[inline(always)]
@@ -241,6 +241,6 @@ impl<W: Sink, F: Formatter> Events for Serializer<W, F> {
         if self.failed.is_none() && self.end(Kind::Object).is_ok() {
             return Ok(());
         }
-        self.refusal()
+        self.kept_error()
     }
 }

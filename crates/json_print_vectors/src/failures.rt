@@ -1,6 +1,6 @@
 // What no clause says of the edge to the system: each call of a writer or a reader that fails is
 // reported.
-ghost use Rattle.json_print.specs.Standing.{AwaitsTree};
+ghost use Rattle.json_print.specs.ExpectedEvents.{AwaitsTree};
 
 use json_print::{BufferedWriter, Events, Serializer};
 use json_text::{
@@ -144,7 +144,7 @@ fn failures_are_told_behind_a_buffer(rt: HostRuntime) {
 }
 
 fn write_true<E: Events>(out: &mut E) -> Result<()>
-    requires { AwaitsTree (E.stand (E.state out.old)) }
+    requires { AwaitsTree (E.token_state (E.state out.old)) }
 {
     out.boolean(true)
 }

@@ -4,123 +4,124 @@ ghost use Rattle.json_grammar.specs.TokenStates.{a_value, state_in};
 ghost use Rattle.json_grammar.specs.declared.Kind.TheVariants.{Array as array, Object as object};
 ghost use Rattle.json_print.specs.Printer.{IsFresh};
 ghost use Rattle.json_print.specs.Serializing.{out_of};
-ghost use Rattle.json_print.specs.Standing.{AwaitsTree, AwaitsMember};
+ghost use Rattle.json_print.specs.ExpectedEvents.{AwaitsTree, AwaitsMember};
 
 use json_print::{
-    Buffer, BufferedWriter, CompactFormatter, Events, Formatter, PrettyFormatter, Serializer, Style,
+    BufferedWriter, CompactFormatter, Events, Formatter, PrettyFormatter, Serializer, Style,
+    WriteBuffer,
 };
 use json_text::{ErrorCode, FakeSink, LentSink, Result, Sink, VecSink, flush_all, put_all};
 use std::alloc::Global;
 
 // Each of these gives one part, and says only what may follow it.
 fn begin<E: Events>(out: &mut E, hint: Option<usize>) -> Result<()>
-    requires { AwaitsTree (E.stand (E.state out.old)) }
-    ensures { OnOk result (AwaitsMember (E.stand (E.state out.new))) }
+    requires { AwaitsTree (E.token_state (E.state out.old)) }
+    ensures { OnOk result (AwaitsMember (E.token_state (E.state out.new))) }
 {
     out.begin_object(hint)
 }
 
 fn end<E: Events>(out: &mut E) -> Result<()>
-    requires { AwaitsMember (E.stand (E.state out.old)) }
+    requires { AwaitsMember (E.token_state (E.state out.old)) }
 {
     out.end_object()
 }
 
 fn key<E: Events>(out: &mut E, key: &str) -> Result<()>
-    requires { AwaitsMember (E.stand (E.state out.old)) }
-    ensures { OnOk result (E.stand (E.state out.new) ≡ record { opened = object ∷ []; expected = a_value }) }
+    requires { AwaitsMember (E.token_state (E.state out.old)) }
+    ensures { OnOk result (E.token_state (E.state out.new) ≡ record { opened = object ∷ []; expected = a_value }) }
 {
     out.key(key)
 }
 
 fn unsigned<E: Events>(out: &mut E, n: u128) -> Result<()>
-    requires { E.stand (E.state out.old) ≡ record { opened = object ∷ []; expected = a_value } }
-    ensures { OnOk result (AwaitsMember (E.stand (E.state out.new))) }
+    requires { E.token_state (E.state out.old) ≡ record { opened = object ∷ []; expected = a_value } }
+    ensures { OnOk result (AwaitsMember (E.token_state (E.state out.new))) }
 {
     out.uint(n)
 }
 
 fn begin_list<E: Events>(out: &mut E, hint: Option<usize>) -> Result<()>
-    requires { E.stand (E.state out.old) ≡ record { opened = object ∷ []; expected = a_value } }
-    ensures { OnOk result (E.stand (E.state out.new) ≡ state_in (array ∷ object ∷ [])) }
+    requires { E.token_state (E.state out.old) ≡ record { opened = object ∷ []; expected = a_value } }
+    ensures { OnOk result (E.token_state (E.state out.new) ≡ state_in (array ∷ object ∷ [])) }
 {
     out.begin_array(hint)
 }
 
 fn signed_element<E: Events>(out: &mut E, n: i128) -> Result<()>
-    requires { E.stand (E.state out.old) ≡ state_in (array ∷ object ∷ []) }
-    ensures { OnOk result (E.stand (E.state out.new) ≡ state_in (array ∷ object ∷ [])) }
+    requires { E.token_state (E.state out.old) ≡ state_in (array ∷ object ∷ []) }
+    ensures { OnOk result (E.token_state (E.state out.new) ≡ state_in (array ∷ object ∷ [])) }
 {
     out.int(n)
 }
 
 fn unsigned_element<E: Events>(out: &mut E, n: u128) -> Result<()>
-    requires { E.stand (E.state out.old) ≡ state_in (array ∷ object ∷ []) }
-    ensures { OnOk result (E.stand (E.state out.new) ≡ state_in (array ∷ object ∷ [])) }
+    requires { E.token_state (E.state out.old) ≡ state_in (array ∷ object ∷ []) }
+    ensures { OnOk result (E.token_state (E.state out.new) ≡ state_in (array ∷ object ∷ [])) }
 {
     out.uint(n)
 }
 
 fn boolean_element<E: Events>(out: &mut E, b: bool) -> Result<()>
-    requires { E.stand (E.state out.old) ≡ state_in (array ∷ object ∷ []) }
-    ensures { OnOk result (E.stand (E.state out.new) ≡ state_in (array ∷ object ∷ [])) }
+    requires { E.token_state (E.state out.old) ≡ state_in (array ∷ object ∷ []) }
+    ensures { OnOk result (E.token_state (E.state out.new) ≡ state_in (array ∷ object ∷ [])) }
 {
     out.boolean(b)
 }
 
 fn null_element<E: Events>(out: &mut E) -> Result<()>
-    requires { E.stand (E.state out.old) ≡ state_in (array ∷ object ∷ []) }
-    ensures { OnOk result (E.stand (E.state out.new) ≡ state_in (array ∷ object ∷ [])) }
+    requires { E.token_state (E.state out.old) ≡ state_in (array ∷ object ∷ []) }
+    ensures { OnOk result (E.token_state (E.state out.new) ≡ state_in (array ∷ object ∷ [])) }
 {
     out.null()
 }
 
 fn end_list<E: Events>(out: &mut E) -> Result<()>
-    requires { E.stand (E.state out.old) ≡ state_in (array ∷ object ∷ []) }
-    ensures { OnOk result (AwaitsMember (E.stand (E.state out.new))) }
+    requires { E.token_state (E.state out.old) ≡ state_in (array ∷ object ∷ []) }
+    ensures { OnOk result (AwaitsMember (E.token_state (E.state out.new))) }
 {
     out.end_array()
 }
 
 fn begin_pairs<E: Events>(out: &mut E) -> Result<()>
-    requires { E.stand (E.state out.old) ≡ record { opened = object ∷ []; expected = a_value } }
-    ensures { OnOk result (E.stand (E.state out.new) ≡ state_in (object ∷ object ∷ [])) }
+    requires { E.token_state (E.state out.old) ≡ record { opened = object ∷ []; expected = a_value } }
+    ensures { OnOk result (E.token_state (E.state out.new) ≡ state_in (object ∷ object ∷ [])) }
 {
     out.begin_object(None)
 }
 
 fn inner_key<E: Events>(out: &mut E, key: &str) -> Result<()>
-    requires { E.stand (E.state out.old) ≡ state_in (object ∷ object ∷ []) }
-    ensures { OnOk result (E.stand (E.state out.new) ≡ record { opened = object ∷ object ∷ []; expected = a_value }) }
+    requires { E.token_state (E.state out.old) ≡ state_in (object ∷ object ∷ []) }
+    ensures { OnOk result (E.token_state (E.state out.new) ≡ record { opened = object ∷ object ∷ []; expected = a_value }) }
 {
     out.key(key)
 }
 
 fn inner_null<E: Events>(out: &mut E) -> Result<()>
-    requires { E.stand (E.state out.old) ≡ record { opened = object ∷ object ∷ []; expected = a_value } }
-    ensures { OnOk result (E.stand (E.state out.new) ≡ state_in (object ∷ object ∷ [])) }
+    requires { E.token_state (E.state out.old) ≡ record { opened = object ∷ object ∷ []; expected = a_value } }
+    ensures { OnOk result (E.token_state (E.state out.new) ≡ state_in (object ∷ object ∷ [])) }
 {
     out.null()
 }
 
 fn inner_text<E: Events>(out: &mut E, text: &str) -> Result<()>
-    requires { E.stand (E.state out.old) ≡ record { opened = object ∷ object ∷ []; expected = a_value } }
-    ensures { OnOk result (E.stand (E.state out.new) ≡ state_in (object ∷ object ∷ [])) }
+    requires { E.token_state (E.state out.old) ≡ record { opened = object ∷ object ∷ []; expected = a_value } }
+    ensures { OnOk result (E.token_state (E.state out.new) ≡ state_in (object ∷ object ∷ [])) }
 {
     out.text(text)
 }
 
 fn end_pairs<E: Events>(out: &mut E) -> Result<()>
-    requires { E.stand (E.state out.old) ≡ state_in (object ∷ object ∷ []) }
-    ensures { OnOk result (AwaitsMember (E.stand (E.state out.new))) }
+    requires { E.token_state (E.state out.old) ≡ state_in (object ∷ object ∷ []) }
+    ensures { OnOk result (AwaitsMember (E.token_state (E.state out.new))) }
 {
     out.end_object()
 }
 
 // `-25, 340282366920938463463374607431768211455, true`
 fn elements<E: Events>(out: &mut E) -> Result<()>
-    requires { E.stand (E.state out.old) ≡ state_in (array ∷ object ∷ []) }
-    ensures { OnOk result (E.stand (E.state out.new) ≡ state_in (array ∷ object ∷ [])) }
+    requires { E.token_state (E.state out.old) ≡ state_in (array ∷ object ∷ []) }
+    ensures { OnOk result (E.token_state (E.state out.new) ≡ state_in (array ∷ object ∷ [])) }
 {
     signed_element(out, -25)?;
     unsigned_element(out, u128::MAX)?;
@@ -129,8 +130,8 @@ fn elements<E: Events>(out: &mut E) -> Result<()>
 
 // `"b": [-25, 340282366920938463463374607431768211455, true]`
 fn list_member<E: Events>(out: &mut E) -> Result<()>
-    requires { AwaitsMember (E.stand (E.state out.old)) }
-    ensures { OnOk result (AwaitsMember (E.stand (E.state out.new))) }
+    requires { AwaitsMember (E.token_state (E.state out.old)) }
+    ensures { OnOk result (AwaitsMember (E.token_state (E.state out.new))) }
 {
     key(out, "b")?;
     begin_list(out, None)?;
@@ -140,8 +141,8 @@ fn list_member<E: Events>(out: &mut E) -> Result<()>
 
 // `"d": null, "c": "\"\\\n\u001fé"`
 fn inner_pairs<E: Events>(out: &mut E) -> Result<()>
-    requires { E.stand (E.state out.old) ≡ state_in (object ∷ object ∷ []) }
-    ensures { OnOk result (E.stand (E.state out.new) ≡ state_in (object ∷ object ∷ [])) }
+    requires { E.token_state (E.state out.old) ≡ state_in (object ∷ object ∷ []) }
+    ensures { OnOk result (E.token_state (E.state out.new) ≡ state_in (object ∷ object ∷ [])) }
 {
     inner_key(out, "d")?;
     inner_null(out)?;
@@ -151,8 +152,8 @@ fn inner_pairs<E: Events>(out: &mut E) -> Result<()>
 
 // `"a": {"d": null, "c": "\"\\\n\u001fé"}`
 fn object_member<E: Events>(out: &mut E) -> Result<()>
-    requires { AwaitsMember (E.stand (E.state out.old)) }
-    ensures { OnOk result (AwaitsMember (E.stand (E.state out.new))) }
+    requires { AwaitsMember (E.token_state (E.state out.old)) }
+    ensures { OnOk result (AwaitsMember (E.token_state (E.state out.new))) }
 {
     key(out, "a")?;
     begin_pairs(out)?;
@@ -162,8 +163,8 @@ fn object_member<E: Events>(out: &mut E) -> Result<()>
 
 // `"a": {}`
 fn empty_object<E: Events>(out: &mut E) -> Result<()>
-    requires { AwaitsMember (E.stand (E.state out.old)) }
-    ensures { OnOk result (AwaitsMember (E.stand (E.state out.new))) }
+    requires { AwaitsMember (E.token_state (E.state out.old)) }
+    ensures { OnOk result (AwaitsMember (E.token_state (E.state out.new))) }
 {
     key(out, "a")?;
     begin_pairs(out)?;
@@ -172,8 +173,8 @@ fn empty_object<E: Events>(out: &mut E) -> Result<()>
 
 // `"": []`
 fn empty_list<E: Events>(out: &mut E) -> Result<()>
-    requires { AwaitsMember (E.stand (E.state out.old)) }
-    ensures { OnOk result (AwaitsMember (E.stand (E.state out.new))) }
+    requires { AwaitsMember (E.token_state (E.state out.old)) }
+    ensures { OnOk result (AwaitsMember (E.token_state (E.state out.new))) }
 {
     key(out, "")?;
     begin_list(out, None)?;
@@ -181,7 +182,7 @@ fn empty_list<E: Events>(out: &mut E) -> Result<()>
 }
 
 fn tree<E: Events>(out: &mut E) -> Result<()>
-    requires { AwaitsTree (E.stand (E.state out.old)) }
+    requires { AwaitsTree (E.token_state (E.state out.old)) }
 {
     begin(out, None)?;
     list_member(out)?;
@@ -192,8 +193,8 @@ fn tree<E: Events>(out: &mut E) -> Result<()>
 }
 
 fn integer_member<E: Events>(out: &mut E, name: &str, n: u128) -> Result<()>
-    requires { AwaitsMember (E.stand (E.state out.old)) }
-    ensures { OnOk result (AwaitsMember (E.stand (E.state out.new))) }
+    requires { AwaitsMember (E.token_state (E.state out.old)) }
+    ensures { OnOk result (AwaitsMember (E.token_state (E.state out.new))) }
 {
     key(out, name)?;
     unsigned(out, n)
@@ -201,7 +202,7 @@ fn integer_member<E: Events>(out: &mut E, name: &str, n: u128) -> Result<()>
 
 // `{"b": 1, "a": 2, "c": 3}`
 fn three_members<E: Events>(out: &mut E) -> Result<()>
-    requires { AwaitsTree (E.stand (E.state out.old)) }
+    requires { AwaitsTree (E.token_state (E.state out.old)) }
 {
     begin(out, None)?;
     integer_member(out, "b", 1)?;
@@ -212,8 +213,8 @@ fn three_members<E: Events>(out: &mut E) -> Result<()>
 
 // `"a": [null, null]`, with a hint of the length
 fn two_nulls<E: Events>(out: &mut E, told: Option<usize>) -> Result<()>
-    requires { AwaitsMember (E.stand (E.state out.old)) }
-    ensures { OnOk result (AwaitsMember (E.stand (E.state out.new))) }
+    requires { AwaitsMember (E.token_state (E.state out.old)) }
+    ensures { OnOk result (AwaitsMember (E.token_state (E.state out.new))) }
 {
     key(out, "a")?;
     begin_list(out, told)?;
@@ -224,7 +225,7 @@ fn two_nulls<E: Events>(out: &mut E, told: Option<usize>) -> Result<()>
 
 // `{"a": [null, null]}`, with hints of the lengths
 fn two_elements<E: Events>(out: &mut E, told: Option<usize>) -> Result<()>
-    requires { AwaitsTree (E.stand (E.state out.old)) }
+    requires { AwaitsTree (E.token_state (E.state out.old)) }
 {
     begin(out, told)?;
     two_nulls(out, told)?;
@@ -240,7 +241,7 @@ enum Piece {
 }
 
 fn write<E: Events>(out: &mut E, piece: Piece) -> Result<()>
-    requires { AwaitsTree (E.stand (E.state out.old)) }
+    requires { AwaitsTree (E.token_state (E.state out.old)) }
 {
     match piece {
         Piece::Tree => tree(out),
@@ -254,7 +255,7 @@ fn written<W: Sink + Drop, F: Formatter + Drop>(
     mut out: Serializer<W, F>,
     piece: Piece,
 ) -> Result<W>
-    requires { AwaitsTree (⟦<Serializer<W, F> as Events>⟧.stand (⟦<Serializer<W, F> as Events>⟧.state out)) }
+    requires { AwaitsTree (⟦<Serializer<W, F> as Events>⟧.token_state (⟦<Serializer<W, F> as Events>⟧.state out)) }
 {
     write(&mut out, piece)?;
     Ok(out.into_inner())
@@ -318,7 +319,7 @@ fn puts<W: Sink>(writer: &mut W, bytes: &[u8]) -> bool {
 }
 
 // Writes `[]` into a sink that is lent, through a buffer, and returns whether that was done.
-fn write_lent(buffer: Buffer, sink: &mut VecSink) -> bool {
+fn write_lent(buffer: WriteBuffer, sink: &mut VecSink) -> bool {
     let mut writer = BufferedWriter::with_buffer(buffer, LentSink::new(sink));
     let done = puts(&mut writer, b"[]");
     let _sink = writer.into_inner().into_inner();
@@ -327,7 +328,7 @@ fn write_lent(buffer: Buffer, sink: &mut VecSink) -> bool {
 
 fn lent_is_written(alloc: Global) -> bool {
     let mut sink = VecSink::new(alloc);
-    match Buffer::new(alloc) {
+    match WriteBuffer::new(alloc) {
         Ok(buffer) => write_lent(buffer, &mut sink) && sink.as_slice() == b"[]".as_slice(),
         Err(_) => false,
     }
@@ -405,7 +406,7 @@ fn is_failed_write(answer: Result<()>) -> bool {
 
 // Whether the second part fails, and the third with the same error.
 fn second_part_fails<E: Events>(out: &mut E) -> Result<bool>
-    requires { AwaitsTree (E.stand (E.state out.old)) }
+    requires { AwaitsTree (E.token_state (E.state out.old)) }
 {
     out.begin_array(None)?;
     let first = out.boolean(true);

@@ -18,11 +18,11 @@ abbrev pub is_option : List ℕ → Bool
 is_option w = bytes_eq (take 1 w) (codes "-")
 
 -- the bytes before the first equals sign, and those after it
-abbrev pub name_in : List ℕ → List ℕ
-name_in w = before_first (λ x. x == 61) w
+abbrev pub name_before_equals : List ℕ → List ℕ
+name_before_equals w = before_first (λ x. x == 61) w
 
-abbrev pub value_in : List ℕ → List ℕ
-value_in w = after_first (λ x. x == 61) w
+abbrev pub value_after_equals : List ℕ → List ℕ
+value_after_equals w = after_first (λ x. x == 61) w
 
 -- the first option of the table that has this name
 abbrev pub option_named : List OptionForm → List ℕ → Option OptionForm
@@ -33,15 +33,15 @@ option_named (o ∷ os) name = cond (bytes_eq o.name.now name) (Some o) (option_
 abbrev pub FitsOption : OptionForm → OptionValue → List ℕ → Type 0
 FitsOption o Nothing w = w ≡ o.name.now
 FitsOption o (Number max) w = is_some (number_after o.name.now max w) ≡ true
-FitsOption o (Text value) w = IsValid usual_rules (value_in w)
+FitsOption o (Text value) w = IsValid usual_rules (value_after_equals w)
 
 -- the group of an argument, where the program takes such a one
 abbrev pub group_of : Usage → List ℕ → Option ℕ
-group_of usage w = cond (is_option w) (option_map (λ o. o.group) (option_named usage.options.now (name_in w))) (option_map (λ o. 0) usage.operand)
+group_of usage w = cond (is_option w) (option_map (λ o. o.group) (option_named usage.options.now (name_before_equals w))) (option_map (λ o. 0) usage.operand)
 
 -- an operand is a JSON text (RFC 8259), and an option has the value that it takes
 abbrev pub FitsAlone : Usage → List ℕ → Type 0
-FitsAlone usage w = elim (is_option w) [ true ↦ elim (option_named usage.options.now (name_in w)) [ Some o ↦ FitsOption o o.value w | None ↦ ⊥ ] | false ↦ IsValid usual_rules w ]
+FitsAlone usage w = elim (is_option w) [ true ↦ elim (option_named usage.options.now (name_before_equals w)) [ Some o ↦ FitsOption o o.value w | None ↦ ⊥ ] | false ↦ IsValid usual_rules w ]
 
 -- ---- an argument after those before it
 
@@ -99,7 +99,7 @@ abbrev pub NamesBefore : List ℕ → List (List ℕ) → ℕ → List ℕ → L
 NamesBefore program ws i hint text = (line : List ℕ) × Names program ws i line × (text ≡ line ++ hint)
 
 -- where to look for help was reported, after the line of the first invalid argument unless memory ran out
-pub record Explains (usage : Usage) (ws : List (List ℕ)) (errs errs' : SinkState) : Type 0 where
+pub record ExplainsUsage (usage : Usage) (ws : List (List ℕ)) (errs errs' : SinkState) : Type 0 where
   pub text : List ℕ
   pub first : ((i : ℕ) → FirstInvalid usage ws i → NamesBefore usage.program.now ws i usage.about.hint.now text) ⊎ (text ≡ usage.about.hint.now)
   pub reports : Reports text errs errs'

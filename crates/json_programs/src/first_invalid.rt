@@ -3,16 +3,16 @@ ghost use Rattle.std.specs.Prelude.{◌≡◌, ◌<◌, ◌≤◌, ◌+◌, ◌^
 ghost use Rattle.json_text.specs.Ruled.{usual_rules};
 ghost use Rattle.json_io.specs.Errors.{OnlyNoMemory};
 ghost use Rattle.json_command.specs.Input.{IsValid};
-ghost use Rattle.json_programs.specs.Usage.{is_option, name_in, value_in, option_named, FitsOption, group_of, FitsAlone, excludes, IsFree, FitsAt, FirstInvalid, AllFit};
+ghost use Rattle.json_programs.specs.Usage.{is_option, name_before_equals, value_after_equals, option_named, FitsOption, group_of, FitsAlone, excludes, IsFree, FitsAt, FirstInvalid, AllFit};
 
 use crate::usage::{OPERAND_GROUP, OptionForm, OptionValue, Usage, exclude};
 use json_command::{option_number, read_argument};
-use json_text::{ErrorCode, Result, Words};
+use json_io::{ErrorCode, Result, Words};
 use std::alloc::Global;
 
 /// Why an argument does not fit those before it.
 #[derive(Clone, Copy, Debug)]
-pub(crate) enum Problem {
+pub(crate) enum InvalidReason {
     /// The program takes no such option, or no operand.
     Unknown,
     /// The argument of this index excludes it.
@@ -27,7 +27,7 @@ pub(crate) enum Problem {
 #[derive(Clone, Copy, Debug)]
 pub(crate) struct Invalid {
     pub index: usize,
-    pub problem: Problem,
+    pub problem: InvalidReason,
 }
 
 /// Whether an argument is an option.
@@ -39,8 +39,8 @@ pub(crate) fn is_option(word: &str) -> bool
 
 /// Returns the text of an option before the first equals sign, and the text after it.
 pub(crate) fn split_option(word: &str) -> (&str, &str)
-    ensures name { result.0.now ≡ name_in word.now }
-    ensures value { result.1.now ≡ value_in word.now }
+    ensures name { result.0.now ≡ name_before_equals word.now }
+    ensures value { result.1.now ≡ value_after_equals word.now }
 {
     match word.split_once('=') {
         Some(parts) => parts,
@@ -62,7 +62,7 @@ fn option_named<'a>(options: &'a [OptionForm], name: &str) -> Option<OptionForm>
 impl Usage {
     /// Returns the option that an argument names.
     pub(crate) fn option_of(&self, word: &str) -> Option<OptionForm>
-        ensures { result ≡ option_named self.now.options.now (name_in word.now) }
+        ensures { result ≡ option_named self.now.options.now (name_before_equals word.now) }
     {
         let (name, _) = split_option(word);
         option_named(self.options, name)
@@ -112,13 +112,13 @@ fn is_text(alloc: Global, text: &str) -> Result<bool>
 }
 
 // Returns what is wrong with an option, where something is.
-fn option_problem(alloc: Global, option: &OptionForm, word: &str) -> Result<Option<Problem>>
+fn option_problem(alloc: Global, option: &OptionForm, word: &str) -> Result<Option<InvalidReason>>
     ensures fits { IfOk result (λ o. IfNone o (FitsOption option.now option.now.value word.now)) }
     ensures misfits { IfOk result
         (λ o. IfSome o (λ _. ¬ (FitsOption option.now option.now.value word.now))) }
     ensures only { OnlyNoMemory result }
 {
-    let wrong = Some(Problem::Value(option.value));
+    let wrong = Some(InvalidReason::Value(option.value));
     match option.value {
         OptionValue::Nothing if word == option.name => Ok(None),
         OptionValue::Nothing => Ok(wrong),
@@ -131,14 +131,14 @@ fn option_problem(alloc: Global, option: &OptionForm, word: &str) -> Result<Opti
             if is_text(alloc, text)? {
                 Ok(None)
             } else {
-                Ok(Some(Problem::NoText))
+                Ok(Some(InvalidReason::NoText))
             }
         }
     }
 }
 
 // Returns what is wrong with an argument on its own, where something is.
-fn problem_alone(alloc: Global, usage: &Usage, word: &str) -> Result<Option<Problem>>
+fn problem_alone(alloc: Global, usage: &Usage, word: &str) -> Result<Option<InvalidReason>>
     ensures fits { IfOk result (λ o. IfNone o (FitsAlone usage.now word.now)) }
     ensures misfits { IfOk result (λ o. IfSome o (λ _. ¬ (FitsAlone usage.now word.now))) }
     ensures only { OnlyNoMemory result }
@@ -146,13 +146,13 @@ fn problem_alone(alloc: Global, usage: &Usage, word: &str) -> Result<Option<Prob
     if is_option(word) {
         return match usage.option_of(word) {
             Some(option) => option_problem(alloc, &option, word),
-            None => Ok(Some(Problem::Unknown)),
+            None => Ok(Some(InvalidReason::Unknown)),
         };
     }
     if is_text(alloc, word)? {
         Ok(None)
     } else {
-        Ok(Some(Problem::NoText))
+        Ok(Some(InvalidReason::NoText))
     }
 }
 
@@ -171,7 +171,12 @@ fn excluding(usage: &Usage, words: &Words, index: usize, group: u8) -> Option<us
 }
 
 // Returns why the argument of this index does not fit those before it, where it does not.
-fn problem_at(alloc: Global, usage: &Usage, words: &Words, index: usize) -> Result<Option<Problem>>
+fn problem_at(
+    alloc: Global,
+    usage: &Usage,
+    words: &Words,
+    index: usize,
+) -> Result<Option<InvalidReason>>
     requires { index < length words.now }
     ensures fits { IfOk result (λ o. IfNone o (FitsAt usage.now words.now index)) }
     ensures misfits { IfOk result (λ o. IfSome o (λ _. ¬ (FitsAt usage.now words.now index))) }
@@ -179,10 +184,10 @@ fn problem_at(alloc: Global, usage: &Usage, words: &Words, index: usize) -> Resu
 {
     let word = words.word(index);
     let Some(group) = usage.group_of(word) else {
-        return Ok(Some(Problem::Unknown));
+        return Ok(Some(InvalidReason::Unknown));
     };
     match excluding(usage, words, index, group) {
-        Some(earlier) => Ok(Some(Problem::Excluded(earlier))),
+        Some(earlier) => Ok(Some(InvalidReason::Excluded(earlier))),
         None => problem_alone(alloc, usage, word),
     }
 }

@@ -1,25 +1,25 @@
 // What is wrong with the value of an argument that is a JSON text.
-use crate::usage::{TextArgument, TextForm};
+use crate::usage::{ArgumentForm, TextArgument};
 use json_number::JsonNumberTrait;
 use json_value::{ArrayView, View};
 use std::alloc::{AllocError, Global};
 
-impl TextForm {
+impl ArgumentForm {
     // Returns what the value has to be.
     fn wanted(self) -> &'static str {
         match self {
-            TextForm::Edits => "array of edits",
-            TextForm::Calls => "array of edits, [\"undo\"] and [\"redo\"]",
-            TextForm::Columns => "array of 1 to 64 columns",
-            TextForm::Path => "array of steps",
-            TextForm::Any => "value",
+            ArgumentForm::Edits => "array of edits",
+            ArgumentForm::Calls => "array of edits, [\"undo\"] and [\"redo\"]",
+            ArgumentForm::Columns => "array of 1 to 64 columns",
+            ArgumentForm::Path => "array of steps",
+            ArgumentForm::Any => "value",
         }
     }
 
     // Returns what an element of the value is called.
     fn element_name(self) -> &'static str {
         match self {
-            TextForm::Path => "step",
+            ArgumentForm::Path => "step",
             _ => "element",
         }
     }
@@ -27,18 +27,18 @@ impl TextForm {
     // Returns what is wrong with an element of the value.
     fn element_fault(self, element: View<'_>) -> Option<(&'static str, &'static str)> {
         match self {
-            TextForm::Edits => Some(("edit", edit_fault(element)?)),
-            TextForm::Calls => Some(("edit, undo or redo", call_fault(element)?)),
-            TextForm::Columns => Some(("column", column_fault(element)?)),
-            TextForm::Path if is_step(element) => None,
-            TextForm::Path => Some(("string and no index", "")),
-            TextForm::Any => None,
+            ArgumentForm::Edits => Some(("edit", edit_fault(element)?)),
+            ArgumentForm::Calls => Some(("edit, undo or redo", call_fault(element)?)),
+            ArgumentForm::Columns => Some(("column", column_fault(element)?)),
+            ArgumentForm::Path if is_step_value(element) => None,
+            ArgumentForm::Path => Some(("string and no index", "")),
+            ArgumentForm::Any => None,
         }
     }
 }
 
 // Whether a value is a step: a string, or an index from 0 that is below 2^32.
-fn is_step(value: View<'_>) -> bool {
+fn is_step_value(value: View<'_>) -> bool {
     if value.text().is_some() {
         return true;
     }
@@ -51,27 +51,27 @@ fn is_step(value: View<'_>) -> bool {
 }
 
 // Whether a value is an array of steps.
-fn is_path(value: View<'_>) -> bool {
+fn is_path_value(value: View<'_>) -> bool {
     match value.as_array() {
-        Some(array) => array.iter().all(is_step),
+        Some(array) => array.iter().all(is_step_value),
         None => false,
     }
 }
 
 // Returns the string that is an element of an array.
-fn text_at<'a>(array: ArrayView<'a>, i: usize) -> Option<&'a str> {
+fn text_element<'a>(array: ArrayView<'a>, i: usize) -> Option<&'a str> {
     array.get(i)?.text()
 }
 
 // Returns what is wrong with the operands of an edit of this name.
 fn operands_fault(name: &str, edit: ArrayView<'_>) -> Option<&'static str> {
-    if !edit.get(1).is_some_and(is_path) {
+    if !edit.get(1).is_some_and(is_path_value) {
         return Some("its path is no array of steps");
     }
-    if name == "insert" && text_at(edit, 2).is_none() {
+    if name == "insert" && text_element(edit, 2).is_none() {
         return Some("its key is no string");
     }
-    if name == "remove" && !edit.get(2).is_some_and(is_step) {
+    if name == "remove" && !edit.get(2).is_some_and(is_step_value) {
         return Some("its step is no string and no index");
     }
     None
@@ -82,7 +82,7 @@ fn edit_fault(value: View<'_>) -> Option<&'static str> {
     let Some(edit) = value.as_array() else {
         return Some("it is no array");
     };
-    let Some(name) = text_at(edit, 0) else {
+    let Some(name) = text_element(edit, 0) else {
         return Some("it does not begin with a name");
     };
     let form = match name {
@@ -101,7 +101,7 @@ fn edit_fault(value: View<'_>) -> Option<&'static str> {
 // Returns what is wrong with an edit, an undo or a redo.
 fn call_fault(value: View<'_>) -> Option<&'static str> {
     if let Some(array) = value.as_array() {
-        if array.len() == 1 && matches!(text_at(array, 0), Some("undo" | "redo")) {
+        if array.len() == 1 && matches!(text_element(array, 0), Some("undo" | "redo")) {
             return None;
         }
     }
@@ -116,10 +116,10 @@ fn column_fault(value: View<'_>) -> Option<&'static str> {
     if column.len() != 2 {
         return Some("it is not [path, kind]");
     }
-    if !column.get(0).is_some_and(is_path) {
+    if !column.get(0).is_some_and(is_path_value) {
         return Some("its path is no array of steps");
     }
-    match text_at(column, 1) {
+    match text_element(column, 1) {
         Some("text" | "int" | "bool" | "json") => None,
         _ => Some("its kind is none of text, int, bool and json"),
     }
@@ -152,7 +152,7 @@ pub(crate) fn form_fault(
     value: View<'_>,
 ) -> Result<Option<String>, AllocError> {
     let (name, form) = (argument.name, argument.form);
-    if form == TextForm::Any {
+    if form == ArgumentForm::Any {
         return Ok(None);
     }
     let Some(array) = value.as_array() else {
@@ -165,7 +165,7 @@ pub(crate) fn form_fault(
         }
         number = number.saturating_add(1);
     }
-    if form == TextForm::Columns && (number < 1 || number > 64) {
+    if form == ArgumentForm::Columns && (number < 1 || number > 64) {
         return Ok(Some(format!(in alloc; "{name} is no {}", form.wanted())?));
     }
     Ok(None)

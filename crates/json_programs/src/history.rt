@@ -1,7 +1,7 @@
 // What the program `mezdruk history` says of itself.
 use crate::usage::{
-    HELP_OPTION, Missing, OPERAND_GROUP, SHORT_HELP_OPTION, SHORT_VERSION_OPTION, TextArgument,
-    TextForm, Usage, VERSION_OPTION,
+    ArgumentForm, HELP_OPTION, MissingGroup, OPERAND_GROUP, SHORT_HELP_OPTION,
+    SHORT_VERSION_OPTION, TextArgument, Usage, VERSION_OPTION,
 };
 use json_command::About;
 
@@ -65,9 +65,9 @@ pub const USAGE_HISTORY: Usage = Usage {
     ],
     operand: Some(TextArgument {
         name: "CALLS",
-        form: TextForm::Calls,
+        form: ArgumentForm::Calls,
     }),
-    missing: Some(Missing {
+    missing: Some(MissingGroup {
         group: OPERAND_GROUP,
         name: "CALLS",
     }),

@@ -1,7 +1,7 @@
 // What the program `json_patch` says of itself.
 use crate::usage::{
-    HELP_OPTION, Missing, OptionForm, OptionValue, SHORT_HELP_OPTION, SHORT_VERSION_OPTION,
-    TextArgument, TextForm, Usage, VERSION_OPTION,
+    ArgumentForm, HELP_OPTION, MissingGroup, OptionForm, OptionValue, SHORT_HELP_OPTION,
+    SHORT_VERSION_OPTION, TextArgument, Usage, VERSION_OPTION,
 };
 use json_command::About;
 
@@ -61,7 +61,7 @@ pub const USAGE_JSON_PATCH: Usage = Usage {
             name: "--patch",
             value: OptionValue::Text(TextArgument {
                 name: "PATCH",
-                form: TextForm::Any,
+                form: ArgumentForm::Any,
             }),
             group: 1,
         },
@@ -69,7 +69,7 @@ pub const USAGE_JSON_PATCH: Usage = Usage {
             name: "--merge",
             value: OptionValue::Text(TextArgument {
                 name: "PATCH",
-                form: TextForm::Any,
+                form: ArgumentForm::Any,
             }),
             group: 1,
         },
@@ -79,7 +79,7 @@ pub const USAGE_JSON_PATCH: Usage = Usage {
         SHORT_VERSION_OPTION,
     ],
     operand: None,
-    missing: Some(Missing {
+    missing: Some(MissingGroup {
         group: 1,
         name: "--patch=PATCH or --merge=PATCH",
     }),

@@ -31,5 +31,5 @@ pub use mezdruk::ABOUT_MEZDRUK;
 pub use reshape::{ABOUT_RESHAPE, USAGE_RESHAPE};
 pub use rpc::{ABOUT_RPC, USAGE_RPC};
 pub use usage::{
-    ALONE, Missing, OPERAND_GROUP, OptionForm, OptionValue, TextArgument, TextForm, Usage,
+    ALONE, ArgumentForm, MissingGroup, OPERAND_GROUP, OptionForm, OptionValue, TextArgument, Usage,
 };

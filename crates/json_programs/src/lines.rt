@@ -1,7 +1,7 @@
 // What the program `mezdruk lines` says of itself.
 use crate::usage::{
-    HELP_OPTION, Missing, OPERAND_GROUP, OptionForm, OptionValue, SHORT_HELP_OPTION,
-    SHORT_VERSION_OPTION, TextArgument, TextForm, Usage, VERSION_OPTION,
+    ArgumentForm, HELP_OPTION, MissingGroup, OPERAND_GROUP, OptionForm, OptionValue,
+    SHORT_HELP_OPTION, SHORT_VERSION_OPTION, TextArgument, Usage, VERSION_OPTION,
 };
 use json_command::About;
 
@@ -64,7 +64,7 @@ pub const USAGE_LINES: Usage = Usage {
             name: "--has",
             value: OptionValue::Text(TextArgument {
                 name: "PATH",
-                form: TextForm::Path,
+                form: ArgumentForm::Path,
             }),
             group: 1,
         },
@@ -75,9 +75,9 @@ pub const USAGE_LINES: Usage = Usage {
     ],
     operand: Some(TextArgument {
         name: "COLUMNS",
-        form: TextForm::Columns,
+        form: ArgumentForm::Columns,
     }),
-    missing: Some(Missing {
+    missing: Some(MissingGroup {
         group: OPERAND_GROUP,
         name: "COLUMNS",
     }),

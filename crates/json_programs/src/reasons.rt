@@ -1,10 +1,10 @@
 // What is said around the name of an argument that does not fit those before it.
 ghost use Rattle.std.specs.Prelude.{◌<◌, length};
 
-use crate::first_invalid::{Invalid, Problem, is_option, split_option};
+use crate::first_invalid::{Invalid, InvalidReason, is_option, split_option};
 use crate::usage::{OPERAND_GROUP, OptionValue, TextArgument, Usage};
 use json_doc::read_document;
-use json_text::{ErrorCode, Words, fault_text};
+use json_io::{ErrorCode, Words, fault_text};
 use std::alloc::{AllocError, Global};
 use strsim::levenshtein;
 
@@ -149,13 +149,13 @@ impl Usage {
     {
         let word = words.word(invalid.index);
         let after = match invalid.problem {
-            Problem::Unknown => return self.unknown_reason(alloc, word),
-            Problem::Excluded(index) if index < words.len() => {
+            InvalidReason::Unknown => return self.unknown_reason(alloc, word),
+            InvalidReason::Excluded(index) if index < words.len() => {
                 self.excluded_reason(alloc, words.word(index), word)?
             }
-            Problem::Excluded(_) => format!(in alloc; ": the option is given alone")?,
-            Problem::Value(value) => value_reason(alloc, value)?,
-            Problem::NoText => self.no_text_reason(alloc, word)?,
+            InvalidReason::Excluded(_) => format!(in alloc; ": the option is given alone")?,
+            InvalidReason::Value(value) => value_reason(alloc, value)?,
+            InvalidReason::NoText => self.no_text_reason(alloc, word)?,
         };
         Ok(Reason::after(after))
     }

@@ -1,7 +1,7 @@
 // What is reported of arguments that are not valid.
 ghost use Rattle.std.specs.Prelude.{◌≡◌, ◌≢◌, ℕ, ◌<◌, ◌+◌, ◌^◌, string_bytes, IfOk};
 ghost use Rattle.json_io.specs.Errors.{OnlyNoMemory};
-ghost use Rattle.json_programs.specs.Usage.{argument_name, report_line, FirstInvalid, Names, NamesBefore, Explains};
+ghost use Rattle.json_programs.specs.Usage.{argument_name, report_line, FirstInvalid, Names, NamesBefore, ExplainsUsage};
 
 use crate::first_invalid::{first_invalid, is_option, split_option};
 use crate::forms::form_fault;
@@ -9,7 +9,7 @@ use crate::reasons::{MAX_SHOWN, Reason};
 use crate::usage::Usage;
 use itoa::Buffer;
 use json_command::{Status, read_argument, report_text};
-use json_text::{ErrorCode, Result, Sink, Words};
+use json_io::{ErrorCode, Result, Sink, Words};
 use json_value::View;
 use std::alloc::Global;
 
@@ -33,7 +33,7 @@ fn name_argument(alloc: Global, index: usize, word: &str) -> Result<String>
 }
 
 // Returns the line of the program, what is before an argument, its name, and what is after it.
-fn line_of(alloc: Global, program: &str, argument: &str, reason: &Reason) -> Result<String>
+fn usage_line(alloc: Global, program: &str, argument: &str, reason: &Reason) -> Result<String>
     ensures ok { IfOk result (λ s. string_bytes s
         ≡ report_line program.now reason.now.before.now argument.now
         (string_bytes reason.now.after)) }
@@ -96,7 +96,7 @@ impl Usage {
             if let Some(fault) = self.value_fault(alloc, word)? {
                 let argument = name_argument(alloc, i, word)?;
                 let after = format!(in alloc; ": {}", fault.as_str())?;
-                return line_of(
+                return usage_line(
                     alloc,
                     self.program,
                     argument.as_str(),
@@ -121,7 +121,7 @@ impl Usage {
         };
         let argument = name_argument(alloc, invalid.index, words.word(invalid.index))?;
         let reason = self.reason(alloc, words, &invalid)?;
-        let line = line_of(alloc, self.program, argument.as_str(), &reason)?;
+        let line = usage_line(alloc, self.program, argument.as_str(), &reason)?;
         Ok(line)
     }
 
@@ -153,7 +153,7 @@ impl Usage {
     /// ```
     pub fn explain<E: Sink>(&self, alloc: Global, words: &Words, status: u8, errs: &mut E)
         ensures explained { status ≡ 2
-            → Explains self.now words.now (E.state errs.old) (E.state errs.new) }
+            → ExplainsUsage self.now words.now (E.state errs.old) (E.state errs.new) }
         ensures untouched { status ≢ 2 → E.state errs.new ≡ E.state errs.old }
     {
         if status != Status::InvalidArguments.number() {

@@ -1,8 +1,8 @@
 // What the program `reshape` says of itself.
 
 use crate::usage::{
-    ALONE, HELP_OPTION, OptionForm, OptionValue, SHORT_HELP_OPTION, SHORT_VERSION_OPTION,
-    TextArgument, TextForm, Usage, VERSION_OPTION,
+    ALONE, ArgumentForm, HELP_OPTION, OptionForm, OptionValue, SHORT_HELP_OPTION,
+    SHORT_VERSION_OPTION, TextArgument, Usage, VERSION_OPTION,
 };
 use json_command::About;
 
@@ -108,7 +108,7 @@ pub const USAGE_RESHAPE: Usage = Usage {
     ],
     operand: Some(TextArgument {
         name: "EDITS",
-        form: TextForm::Edits,
+        form: ArgumentForm::Edits,
     }),
     missing: None,
 };

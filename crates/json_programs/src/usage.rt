@@ -6,7 +6,7 @@ use json_command::About;
 
 /// The form of the value that the JSON text of an argument has.
 #[derive(Clone, Copy, Debug, PartialEq, Eq)]
-pub enum TextForm {
+pub enum ArgumentForm {
     /// An array of edits.
     Edits,
     /// An array of edits, of `["undo"]` and of `["redo"]`.
@@ -25,7 +25,7 @@ pub struct TextArgument {
     /// Its name in the help, as `EDITS`.
     pub name: &'static str,
     /// The form of its value.
-    pub form: TextForm,
+    pub form: ArgumentForm,
 }
 
 /// What follows the name of an option.
@@ -87,7 +87,7 @@ pub(crate) const SHORT_VERSION_OPTION: OptionForm = OptionForm {
 
 /// What is missing where no argument of a group is given.
 #[derive(Clone, Copy, Debug)]
-pub struct Missing {
+pub struct MissingGroup {
     /// The group.
     pub group: u8,
     /// The name of what is missing, as `COLUMNS`.
@@ -117,7 +117,7 @@ pub struct Usage {
     /// Its operand, if it takes one.
     pub operand: Option<TextArgument>,
     /// The group of which an argument has to be given, if there is one.
-    pub missing: Option<Missing>,
+    pub missing: Option<MissingGroup>,
 }
 
 /// Whether of two arguments of these groups one excludes the other.

@@ -1,7 +1,7 @@
 // One value within a text, and what may follow it.
 ghost use Rattle.std.specs.Str.{IsCharBoundary};
 
-use crate::looks::{Refused, Row, each_holds, next_of, refusal};
+use crate::looks::{Refused, Row, each_holds, next_of, refused_at};
 use json_text::ErrorCode::{
     EofWhileParsing, ExpectedArrayCommaOrEnd, ExpectedObjectCommaOrEnd, InvalidNumber,
     TrailingCharacters, TrailingComma,
@@ -102,9 +102,9 @@ impl Row for Ends {
     }
 
     fn holds(&self, _alloc: Global) -> bool {
-        refusal(Parser::new(self.text).end()) == self.end
-            && refusal(Parser::new(self.text).end_seq()) == self.seq
-            && refusal(Parser::new(self.text).end_map()) == self.map
+        refused_at(Parser::new(self.text).end()) == self.end
+            && refused_at(Parser::new(self.text).end_seq()) == self.seq
+            && refused_at(Parser::new(self.text).end_map()) == self.map
     }
 }
 

@@ -1,7 +1,9 @@
 // What a parser hands out, and what it refuses.
 use crate::looks::{Refused, Row, each_holds, next_of};
-use json_grammar::Spot;
-use json_text::{Cursor, Error, ErrorCode, Event, Kinds, Parser, Place, Result, Span, step};
+use json_grammar::ExpectedPart;
+use json_text::{
+    ContainerStack, Cursor, Error, ErrorCode, Event, Parser, Place, Result, Span, step,
+};
 use std::alloc::Global;
 
 // A letter for each event.
@@ -333,9 +335,9 @@ fn levels_up_to_the_limit(rt: HostRuntime) {
 fn first_step(text: &str) -> std::result::Result<(u8, usize), (ErrorCode, usize)> {
     let start = Cursor {
         at: 0,
-        spot: Spot::Value,
+        expected: ExpectedPart::Value,
     };
-    match step::<0>(text, start, 254, false, &mut Kinds::new()) {
+    match step::<0>(text, start, 254, false, &mut ContainerStack::new()) {
         Ok(read) => Ok((letter(read.event), read.end)),
         Err(fault) => Err((fault.code, fault.offset)),
     }

@@ -12,7 +12,7 @@ pub fn next_of<'a>(parser: &mut Parser<'a>) -> Result<Event<'a>> {
 }
 
 /// What is refused, and at which offset.
-pub fn refusal<T: Drop>(outcome: Result<T>) -> Refused {
+pub fn refused_at<T: Drop>(outcome: Result<T>) -> Refused {
     match outcome {
         Ok(_) => None,
         Err(error) => Some((error.code, error.offset())),

@@ -1,5 +1,5 @@
 // What is refused by rules, and where.
-use crate::looks::{Refused, Row, each_holds, refusal};
+use crate::looks::{Refused, Row, each_holds, refused_at};
 use json_doc::read_document_with;
 use json_text::{ErrorCode, Rules};
 use std::alloc::Global;
@@ -17,7 +17,7 @@ fn refused_by(alloc: Global, text: &str, rules: Rules) -> Refused {
     if text.len() >= 1000 {
         return Some((ErrorCode::TooLarge, None));
     }
-    refusal(read_document_with(alloc, text, rules))
+    refused_at(read_document_with(alloc, text, rules))
 }
 
 impl Row for Ruled {

@@ -5,7 +5,7 @@ use Rattle.std.proofs.lemmas.Bool.{cases_lt, false≢true}
 use Rattle.json_grammar.specs.Tree.{Tree, depth}
 use Rattle.json_grammar.specs.Grammar.{ws, is_text}
 use Rattle.json_grammar.specs.Fault.{fault}
-use Rattle.json_grammar.specs.declared.Spot.TheVariants as spot
+use Rattle.json_grammar.specs.declared.ExpectedPart.TheVariants as expected
 use Rattle.json_grammar.proofs.Moves.{give_start, cut_off}
 use Rattle.json_grammar.proofs.OneFault.{text_no_fault}
 use Rattle.json_grammar.proofs.TextUtf8.{text_utf8}
@@ -17,7 +17,7 @@ use Rattle.json_text.specs.Faults.{FaultAt}
 use Rattle.json_io.specs.Positions.{place_at}
 use Rattle.json_io.specs.Utf8.{IsUtf8Fault, Utf8Cause}
 use Rattle.json_scan.proofs.Masks.{space_test, space_decided}
-use Rattle.json_text.proofs.OneFaultAt.{stands, some_fault_at}
+use Rattle.json_text.proofs.OneFaultAt.{is_there, some_fault_at}
 use Rattle.json_io.proofs.Utf8Faults.{some_fault}
 use Rattle.json_doc.specs.Reading.{ReadingFails}
 use Rattle.json_command.proofs.Inputs.{utf8_no_fault}
@@ -42,12 +42,12 @@ ws_or_not (x ∷ b) = by (space_test x) refl (ws_or_not b)
     by true e (inr n) = inr (λ h. n h.1)
     by false e o = inr (λ h. let f = space_decided.whole x h.0 in cc)
 
-value_done : spot.Value ≡ spot.Done → ⊥
+value_done : expected.Value ≡ expected.Done → ⊥
 value_done e = cc
 
 -- whitespace is no text
 blank_no_text : (b : List ℕ) (u : Tree) → ws b → is_text false u b → ⊥
-blank_no_text b u h t = cut_off false b 0 [] spot.Value [] (give_start false b) h (λ d. value_done d.0) u t
+blank_no_text b u h t = cut_off false b 0 [] expected.Value [] (give_start false b) h (λ d. value_done d.0) u t
 
 -- ---- what is no text
 
@@ -56,7 +56,7 @@ too_deep u h = elim (cases_lt max_levels (depth u)) [ inl k ↦ k | inr k ↦ ab
 
 pub fault_no_text : (b : List ℕ) (c : ErrorCode) (p : Place) → FaultAt false 254 b c p → IsNoText b
 fault_no_text b c p (k, e, h) u t =
-    let s = stands (λ row. fault false 254 b row k) c h in too_deep u (λ l. text_no_fault false 254 b u s.row k t l s.holds)
+    let s = is_there (λ row. fault false 254 b row k) c h in too_deep u (λ l. text_no_fault false 254 b u s.row k t l s.holds)
 
 pub fails_no_text : (b : List ℕ) (c : ErrorCode) (p : Place) → c ≢ code.NoMemory → ReadingFails b c p → IsNoText b
 fails_no_text b code.NoMemory p n h = absurd (n refl)

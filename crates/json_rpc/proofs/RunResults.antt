@@ -14,7 +14,7 @@ use Rattle.json_io.specs.Lending.{lent_as, ComesBack}
 use Rattle.json_io.specs.Outside.{SinkState, SourceState, Rose}
 use Rattle.json_io.specs.Transfer.{FlushesAll, WritingCause}
 use Rattle.json_io.proofs.Known.{known-nil, known-append}
-use Rattle.json_layout.specs.Buffered.{held_behind}
+use Rattle.json_layout.specs.Buffered.{held_after}
 use Rattle.json_layout.specs.Pieces.{holds_any}
 use Rattle.json_layout.specs.TextWriting.{Begins as BeginsWith, StopCause}
 use Rattle.json_print.proofs.TextWriting.{front_gained}
@@ -50,7 +50,7 @@ serves_all a c out u fresh begins all flush =
         gained = subst (λ t. Appends a.out.gained out.gained (replies t all.messages)) begins (flush.keeps ∙ all.writes.ok);
       };
       writes = record {
-        written = same_faults c.out.faults out.faults flush.later.faults (λ l. ok_no_error u writing_failed (flush.told l)) ∙ all.writes.calm;
+        written = same_faults c.out.faults out.faults flush.later.faults (λ l. ok_no_error u writing_failed (flush.reported l)) ∙ all.writes.calm;
         flushed = flush.ok;
       };
     }
@@ -70,8 +70,8 @@ flush_stops a c out e begins all flush =
           (record { back = []; whole = sym (known-nil out.gained ∙ flush.keeps ∙ all.writes.ok) });
       same_loan = flush.later.same_loan ∙ all.writes.same_loan;
       cause = cause-flush all.bytes a.source c.source a.out out e.code e.place c.out all.writes.calm flush.cause;
-      reading_told = λ l. absurd (omega (arith, l, all.no_fault));
-      writing_told = λ l. err_same e writing_failed (flush.told (omega (arith, l, all.writes.calm)));
+      reading_reported = λ l. absurd (omega (arith, l, all.no_fault));
+      writing_told = λ l. err_same e writing_failed (flush.reported (omega (arith, l, all.writes.calm)));
     }
 
 pub flushed_ok : (a c : ServingState) (out : SinkState) (r : Result (Unit {0}) Error) → IsFreshServing a → a.document ≡ null → FinishesServing a c → FlushesAll c.out out r → OnOk r (ServesAll (service_streams a.source a.out) (service_streams c.source out))
@@ -103,7 +103,7 @@ loop_stops a c e fresh begins stop =
         | inl h ↦ cause-line stop.bytes a.source c.source a.out c.out e.code e.place c.reader received h
         | inr h ↦ writing_cause stop.bytes a.source c.source a.out c.out e.code e.place h.0
       ];
-      reading_told = stop.reading_told;
+      reading_reported = stop.reading_reported;
       writing_told = stop.writing_told;
     }
 
@@ -113,7 +113,7 @@ abbrev Lent : SinkState → GName → SinkState
 Lent old name = lent_as old name old.gained
 
 abbrev Back : SinkState → SinkState → GName → List ℕ → SinkState
-Back old new name held = held_behind (lent_as new name old.gained) held
+Back old new name held = held_after (lent_as new name old.gained) held
 
 lent_stops : (s s' : SourceState) (old new : SinkState) (name : GName) (held : List ℕ) (e : Error) → Grows old.gained new.gained → StopsBuffered (service_streams s (Lent old name)) (service_streams s' (Back old new name held)) e → StopsRun (service_streams s old) (service_streams s' new) e
 lent_stops s s' old new name held e g h =
@@ -126,11 +126,11 @@ lent_stops s s' old new name held e g h =
         gained = front_gained old.gained new.gained (replies null h.messages) _ (h.prefix.whole ∙ known-append new.gained held h.prefix.back) g;
       };
       cause = h.cause;
-      reading_told = h.reading_told;
+      reading_reported = h.reading_reported;
       writing_told = h.writing_told;
     }
 
-module _ (old now sent lent began : SinkState) (name name' : GName) (held : List ℕ) (b : began ≡ lent_as old name old.gained) (loan_kept : sent.loan ≡ began.loan) (s : sent ≡ held_behind lent held) (back : ComesBack lent now name') where
+module _ (old now sent lent began : SinkState) (name name' : GName) (held : List ℕ) (b : began ≡ lent_as old name old.gained) (loan_kept : sent.loan ≡ began.loan) (s : sent ≡ held_after lent held) (back : ComesBack lent now name') where
   is : sent ≡ Back old now name held
   is = came_back old now sent lent began name name' held b loan_kept s back
 
@@ -157,6 +157,6 @@ stops_at_once s k e h =
         gained = record { front = []; back = []; whole = refl; gains = sym (known-nil k.gained) };
       };
       cause = subst (λ (x : Error). ServingErrorCause [] (service_streams s k) (service_streams s k) x.code x.place) (sym h) tt;
-      reading_told = λ l. absurd (omega (arith, l));
+      reading_reported = λ l. absurd (omega (arith, l));
       writing_told = λ l. absurd (omega (arith, l));
     }

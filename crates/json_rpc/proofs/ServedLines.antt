@@ -151,7 +151,7 @@ StopsServing-reading a b c e so_far fails =
       prefix = first_replies a.document so_far.messages later.0 a.out.gained c.out.gained (ap (λ s. s.gained) same ∙ so_far.writes.ok);
       same_loan = ap (λ s. s.loan) same ∙ so_far.writes.same_loan;
       cause = inl stop.cause;
-      reading_told = stop.told;
+      reading_reported = stop.reported;
       writing_told = λ l. absurd (omega (arith, l, ap (λ s. s.faults) same, so_far.writes.calm));
     }
 
@@ -183,7 +183,7 @@ StopsServing-unserved a b c e line so_far read same lacks =
           (first_replies a.document so_far.messages (later.0 ∷ [] ++ rest.0) a.out.gained c.out.gained (ap (λ s. s.gained) same ∙ so_far.writes.ok));
       same_loan = ap (λ s. s.loan) same ∙ so_far.writes.same_loan;
       cause = inr (stops_for_memory a.out.faults c.out.faults e lacks, now.no_fault, now.few);
-      reading_told = λ l. absurd (omega (arith, l, now.no_fault));
+      reading_reported = λ l. absurd (omega (arith, l, now.no_fault));
       writing_told = λ l. absurd (omega (arith, l, ap (λ s. s.faults) same, so_far.writes.calm));
     }
 
@@ -212,8 +212,8 @@ StopsServing-unwritten a b c e line so_far read fails =
       prefix = subst (λ t. BeginsWith c.out.gained (append_known a.out.gained t)) (sym text) (longer_text c.out.gained a.out.gained _ (replies c.document rest.0) writes.prefix);
       same_loan = writes.same_loan;
       cause = inr (writes.cause, now.no_fault, now.few);
-      reading_told = λ l. absurd (omega (arith, l, now.no_fault));
-      writing_told = λ l. err_same e writing_failed (writes.told l);
+      reading_reported = λ l. absurd (omega (arith, l, now.no_fault));
+      writing_told = λ l. err_same e writing_failed (writes.reported l);
     }
 
 pub StopsServing-from : (a b c : ServingState) (e : Error) → ServedLines a b → ServingStepFails b c e → StopsServing a c e

@@ -5,7 +5,7 @@ use Rattle.std.specs.Result.{result_map_both}
 use Rattle.std.proofs.lemmas.List.{length-append}
 use Rattle.std.proofs.lemmas.List.Sums.{sum_by-cons}
 use Rattle.json_grammar.specs.Tree.{Tree, null, boolean, num, text, list, pairs, Trees, no_trees, tree_and, Pairs, no_pairs, pair_and, trees_list, pairs_list}
-use Rattle.json_model.specs.Edit.{Step, key_step, index_step, Changed, Refusal, not_found, type_unmatched, within, at_key, at_index, at_path}
+use Rattle.json_model.specs.Edit.{Step, key_step, index_step, Changed, EditRefusal, not_found, type_unmatched, within, at_key, at_index, at_path}
 use Rattle.json_value.specs.Seen.{first_of}
 use Rattle.json_value.specs.Steps.{child, tree_at}
 use Rattle.json_rpc.specs.Requests.{Request, named_member, request_of, version}
@@ -103,7 +103,7 @@ onward : (o : Option Tree) (p : List Step) → ((v : Tree) → Goes (tree_at_pat
 onward None p h u = (λ e. cc, λ e. cc)
 onward (Some v) p h u = h v u
 
-nowhere : (why : Refusal) (o : Option Tree) → o ≡ None → (p : List Step) → Goes (Err why) (elim o [ None ↦ None | Some u ↦ tree_at p u ])
+nowhere : (why : EditRefusal) (o : Option Tree) → o ≡ None → (p : List Step) → Goes (Err why) (elim o [ None ↦ None | Some u ↦ tree_at p u ])
 nowhere why None e p u = (λ e. cc, λ e. cc)
 nowhere why (Some v) e p u = absurd (none_some (sym e))
 

@@ -18,17 +18,17 @@ use Rattle.json_rpc.specs.declared.service.Service.{Service}
 use Rattle.json_rpc.specs.Responses.{result_response, error_response}
 use Rattle.json_rpc.specs.Methods as methods
 use Rattle.json_rpc.specs.declared.request.Request.{Request}
-use Rattle.json_rpc.specs.declared.operation.Operation.{Operation}
-use Rattle.json_rpc.specs.declared.operation.Operation.TheVariants.{Get, Change}
+use Rattle.json_rpc.specs.declared.operation.RequestedOperation.{RequestedOperation}
+use Rattle.json_rpc.specs.declared.operation.RequestedOperation.TheVariants.{Get, Change}
 
 -- the request that was read
 abbrev pub request_seen : Request → spec.Request
 request_seen r = record { method = r.method.now; params = option_map seen r.params; id = option_map seen r.id }
 
 -- what an operation asks for
-abbrev pub operation_denoted : Operation → methods.MethodOperation
-operation_denoted (Get p) = methods.get (path_steps p)
-operation_denoted (Change e) = methods.change (edit_of e)
+abbrev pub operation_denoted : RequestedOperation → methods.MethodOperation
+operation_denoted (Get p) = methods.respond_to_get (path_steps p)
+operation_denoted (Change e) = methods.change_document (edit_of e)
 
 -- what a line that was read is
 abbrev pub message_denoted : Message → serve.Message

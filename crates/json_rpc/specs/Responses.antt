@@ -15,17 +15,17 @@ error_code NotFound = codes "-32000"
 error_code TypeUnmatched = codes "-32001"
 
 -- its message
-abbrev pub error_message : RpcError → List ℕ
-error_message ParseError = codes "Parse error"
-error_message InvalidRequest = codes "Invalid Request"
-error_message MethodNotFound = codes "Method not found"
-error_message InvalidParams = codes "Invalid params"
-error_message NotFound = codes "Not found"
-error_message TypeUnmatched = codes "Type unmatched"
+abbrev pub read_line : RpcError → List ℕ
+read_line ParseError = codes "Parse error"
+read_line InvalidRequest = codes "Invalid Request"
+read_line MethodNotFound = codes "Method not found"
+read_line InvalidParams = codes "Invalid params"
+read_line NotFound = codes "Not found"
+read_line TypeUnmatched = codes "Type unmatched"
 
 -- an error object (section 5.1)
 abbrev pub error_object : RpcError → Tree
-error_object f = pairs (list_pairs ((codes "code", num (error_code f)) ∷ (codes "message", text (error_message f)) ∷ []))
+error_object f = pairs (list_pairs ((codes "code", num (error_code f)) ∷ (codes "message", text (read_line f)) ∷ []))
 
 -- a Response object: the version, the result or the error under its name, and the id of the request
 abbrev pub response : List ℕ → Tree → Tree → Tree

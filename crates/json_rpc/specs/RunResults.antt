@@ -6,7 +6,7 @@ use Rattle.json_io.specs.declared.error.ErrorCode.{ErrorCode}
 use Rattle.json_io.specs.declared.error.Place.{Place}
 use Rattle.json_io.specs.Errors.{reading_failed, writing_failed, bad_words}
 use Rattle.json_io.specs.FaultText.{text_of}
-use Rattle.json_io.specs.Known.{Appends, append_known, told_as}
+use Rattle.json_io.specs.Known.{Appends, append_known, if_known}
 use Rattle.json_io.specs.Outside.{SourceState, SinkState, Rose}
 use Rattle.json_io.specs.Transfer.{AppendsFront}
 use Rattle.json_layout.specs.TextWriting.{Begins as BeginsWith}
@@ -33,7 +33,7 @@ pub record ReadsWholeSource (old new : ServiceStreams) : Type 0 where
   pub bytes : List ℕ
   pub gives : GivesBytes old.source new.source bytes
   pub few : length bytes ≤ max_bytes
-  pub drained : new.source.left ≡ told_as old.source.left []
+  pub drained : new.source.left ≡ if_known old.source.left []
   pub read : new.source.faults ≡ old.source.faults
 
 -- the sink gained exactly the replies to all lines, where the document was null
@@ -70,7 +70,7 @@ pub record StopsRun (old new : ServiceStreams) (error : Error) : Type 0 where
   pub prefix : AppendsRepliesPrefix bytes old new
   pub cause : ServingErrorCause bytes old new error.code error.place
   -- a failed call is always reported
-  pub reading_told : old.source.faults < new.source.faults → error ≡ reading_failed
+  pub reading_reported : old.source.faults < new.source.faults → error ≡ reading_failed
   pub writing_told : old.sink.faults < new.sink.faults → error ≡ writing_failed
 
 -- the same of a sink that may hold bytes back
@@ -82,50 +82,50 @@ pub record StopsBuffered (old new : ServiceStreams) (error : Error) : Type 0 whe
   pub prefix : BeginsWith new.sink.gained (append_known old.sink.gained (replies null messages))
   pub same_loan : new.sink.loan ≡ old.sink.loan
   pub cause : ServingErrorCause bytes old new error.code error.place
-  pub reading_told : old.source.faults < new.source.faults → error ≡ reading_failed
+  pub reading_reported : old.source.faults < new.source.faults → error ≡ reading_failed
   pub writing_told : old.sink.faults < new.sink.faults → error ≡ writing_failed
 
 -- ---- all of it
 
 -- there are words, which are looked at first: nothing was read or written
-pub record RefusesAnyWords (words : List (List ℕ)) (old new : ServiceStreams) (error : Error) : Type 0 where
-  pub some : words ≢ []
-  pub told : error ≡ bad_words
+pub record RefusesAnyWords (arguments : List (List ℕ)) (old new : ServiceStreams) (error : Error) : Type 0 where
+  pub some : arguments ≢ []
+  pub reported : error ≡ bad_words
   pub unread : new.source ≡ old.source
   pub unwritten : new.sink ≡ old.sink
 
 -- there are no words, and the run stopped
-pub record FailsServing (words : List (List ℕ)) (old new : ServiceStreams) (error : Error) : Type 0 where
-  pub none : words ≡ []
+pub record FailsServing (arguments : List (List ℕ)) (old new : ServiceStreams) (error : Error) : Type 0 where
+  pub none : arguments ≡ []
   pub stops : StopsRun old new error
 
 abbrev pub ServingRunFails : List (List ℕ) → ServiceStreams → ServiceStreams → Error → Type 0
-ServingRunFails words old new error = RefusesAnyWords words old new error ⊎ FailsServing words old new error
+ServingRunFails arguments old new error = RefusesAnyWords arguments old new error ⊎ FailsServing arguments old new error
 
 -- the run failed with this status, and its error was reported
-pub record ReportsFailure (words : List (List ℕ)) (old new : ServiceStreams) (errs errs' : SinkState) (status : ℕ) : Type 0 where
+pub record ReportsFailure (arguments : List (List ℕ)) (old new : ServiceStreams) (errs errs' : SinkState) (status : ℕ) : Type 0 where
   pub error : Error
   pub status_is : status ≡ run_status error.code error.place
-  pub fails : ServingRunFails words old new error
+  pub fails : ServingRunFails arguments old new error
   pub reports : Reports (text_of error) errs errs'
 
 -- status 0: every line was served, and nothing was reported
-pub record CompletesServing (words : List (List ℕ)) (old new : ServiceStreams) (errs errs' : SinkState) (status : ℕ) : Type 0 where
+pub record CompletesServing (arguments : List (List ℕ)) (old new : ServiceStreams) (errs errs' : SinkState) (status : ℕ) : Type 0 where
   pub is : status ≡ 0
-  pub none : words ≡ []
+  pub none : arguments ≡ []
   pub serves : ServesAll old new
   pub silent : errs' ≡ errs
 
 abbrev pub ServingResult : List (List ℕ) → ServiceStreams → ServiceStreams → SinkState → SinkState → ℕ → Type 0
-ServingResult words old new errs errs' status = CompletesServing words old new errs errs' status ⊎ ReportsFailure words old new errs errs' status
+ServingResult arguments old new errs errs' status = CompletesServing arguments old new errs errs' status ⊎ ReportsFailure arguments old new errs errs' status
 
 -- the statuses of a run
 abbrev pub IsRunStatus : ℕ → Type 0
 IsRunStatus status = (status ≤ 7) × (status ≢ 1) × (status ≢ 3)
 
 -- there are no words, the source has at most 4,294,967,295 known bytes, and no call failed
-pub record NothingFailsServing (words : List (List ℕ)) (old new : ServiceStreams) : Type 0 where
-  pub no_words : words ≡ []
+pub record NothingFailsServing (arguments : List (List ℕ)) (old new : ServiceStreams) : Type 0 where
+  pub no_words : arguments ≡ []
   pub bytes : List ℕ
   pub known : old.source.left ≡ Some bytes
   pub few : length bytes ≤ max_bytes

@@ -3,7 +3,7 @@ use Rattle.std.specs.Prelude.{◌≡◌, ◌⊎◌, ℕ, ◌<◌, ◌≤◌, Boo
 use Rattle.json_grammar.specs.Tree.{Tree}
 use Rattle.json_io.specs.declared.error.Error.{Error}
 use Rattle.json_io.specs.Errors.{reading_failed, writing_failed}
-use Rattle.json_io.specs.Known.{append_known, told_as}
+use Rattle.json_io.specs.Known.{append_known, if_known}
 use Rattle.json_io.specs.Outside.{SinkState, SourceState}
 use Rattle.json_layout.specs.TextWriting.{Begins as BeginsWith, StopCause, WritesText}
 use Rattle.json_command.specs.Input.{max_bytes}
@@ -66,7 +66,7 @@ pub record FinishesServing (old new : ServingState) : Type 0 where
   pub bytes : List ℕ
   pub reads : ReadsBytes old.reader new.reader old.source new.source bytes
   pub all : IfSome old.source.left (λ b. b ≡ bytes)
-  pub drained : new.source.left ≡ told_as old.source.left []
+  pub drained : new.source.left ≡ if_known old.source.left []
   pub no_fault : new.source.faults ≡ old.source.faults
   pub few : new.reader.received ≤ max_bytes
   pub messages : List Message
@@ -89,5 +89,5 @@ pub record StopsServing (old new : ServingState) (error : Error) : Type 0 where
   pub same_loan : new.out.loan ≡ old.out.loan
   pub cause : LoopErrorCause old new error
   -- a failed call is always reported
-  pub reading_told : old.source.faults < new.source.faults → error ≡ reading_failed
+  pub reading_reported : old.source.faults < new.source.faults → error ≡ reading_failed
   pub writing_told : old.out.faults < new.out.faults → error ≡ writing_failed

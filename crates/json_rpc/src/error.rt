@@ -1,7 +1,7 @@
 // The errors of JSON-RPC.
 ghost use Rattle.std.specs.Prelude.{◌≡◌};
 ghost use Rattle.std.specs.Fmt.{signed_decimal};
-ghost use Rattle.json_rpc.specs.Responses.{error_code, error_message};
+ghost use Rattle.json_rpc.specs.Responses.{error_code, read_line};
 
 /// An error that a response object carries (JSON-RPC 2.0, section 5.1).
 ///
@@ -43,7 +43,7 @@ impl RpcError {
 
     /// Returns the message, one short sentence without an end.
     pub fn message(self) -> &'static str
-        ensures { result.now ≡ error_message self }
+        ensures { result.now ≡ read_line self }
     {
         match self {
             RpcError::ParseError => "Parse error",

@@ -67,7 +67,7 @@ pub fn params_by_name()
 {}
 
 /// Shows the response to a path to a key that is not there.
-pub fn nothing_there()
+pub fn missing_key()
     ensures { GetsNothing }
 {}
 

@@ -3,11 +3,11 @@
 //! ```
 //! use json_rpc::run_rpc;
 //! use json_text::{SliceSource, VecSink, Words};
-//! let words = Words::new(alloc);
+//! let arguments = Words::new(alloc);
 //! let line = b"{\"jsonrpc\":\"2.0\",\"method\":\"get\",\"params\":[[]],\"id\":1}";
 //! let mut source = SliceSource::new(line);
 //! let (mut sink, mut errs) = (VecSink::new(alloc), VecSink::new(alloc));
-//! assert_eq!(rt; run_rpc(alloc, &words, &mut source, &mut sink, &mut errs), 0);
+//! assert_eq!(rt; run_rpc(alloc, &arguments, &mut source, &mut sink, &mut errs), 0);
 //! assert_eq!(rt; sink.as_slice(), b"{\"jsonrpc\":\"2.0\",\"result\":null,\"id\":1}\n".as_slice());
 //! ```
 #![tactic(auto)]

@@ -6,13 +6,13 @@ ghost use Rattle.json_rpc.specs.Steps.{ServingStepResult, ServingStepFails, IsFr
 
 use crate::reply::serve_line;
 use crate::service::Service;
+use json_io::{Result, Sink, Source};
+use json_layout::BufferedWriter;
 use json_lines::LineReader;
-use json_print::BufferedWriter;
-use json_text::{Result, Sink, Source};
 use std::alloc::Global;
 
 // Reads one line, serves it and writes its reply. Returns false if there is no line.
-fn step<S: Source, W: Sink>(
+fn serve_next_line<S: Source, W: Sink>(
     alloc: Global,
     service: &mut Service,
     reader: &mut LineReader,
@@ -81,7 +81,7 @@ pub(crate) fn serve_lines<S: Source, W: Sink>(
         (⟦<BufferedWriter<W> as Sink>⟧.state out.new) service.new) e) }
 {
     'line: loop {
-        match step(alloc, service, reader, source, out) {
+        match serve_next_line(alloc, service, reader, source, out) {
             Ok(true) => {}
             Ok(false) => return Ok(()),
             Err(error) => return Err(error),

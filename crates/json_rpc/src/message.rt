@@ -6,7 +6,8 @@ ghost use Rattle.json_rpc.specs.Denoted.{message_denoted};
 ghost use Rattle.json_io.specs.Errors.{OnlyNoMemory};
 
 use json_doc::read_document;
-use json_text::{ErrorCode, Result, check_utf8, ws_run};
+use json_io::{ErrorCode, Result, check_utf8};
+use json_scan::ws_run;
 use json_value::Value;
 use std::alloc::Global;
 
@@ -32,7 +33,7 @@ fn is_blank(bytes: &[u8]) -> bool
 }
 
 // Reads a text that is not whitespace alone.
-fn read_text(alloc: Global, text: &str) -> Result<Message>
+fn read_message_text(alloc: Global, text: &str) -> Result<Message>
     requires size { length text.now ≤ max_line_bytes }
     requires full { ¬ (ws text.now) }
     ensures ok { IfOk result (λ m. IsMessage text.now (message_denoted m)) }
@@ -62,7 +63,7 @@ pub(crate) fn read_message(alloc: Global, bytes: &[u8]) -> Result<Message>
         return Ok(Message::Blank);
     }
     match check_utf8(bytes) {
-        Ok(text) => read_text(alloc, text),
+        Ok(text) => read_message_text(alloc, text),
         Err(_) => Ok(Message::Unreadable),
     }
 }

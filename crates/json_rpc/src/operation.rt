@@ -12,27 +12,27 @@ ghost use Rattle.json_io.specs.Errors.{OnlyNoMemory};
 
 use crate::error::RpcError;
 use crate::request::Request;
+use json_io::Result;
 use json_number::{JsonNumberTrait, Number};
-use json_text::Result;
 use json_value::{ArrayView, Edit, Path, PointerNode, Text, View};
 use std::alloc::Global;
 
 /// What a request asks of the document: a value, or an edit.
 #[derive(Drop)]
-pub(crate) enum Operation {
+pub(crate) enum RequestedOperation {
     Get(Path),
     Change(Edit),
 }
 
 // Returns the index that a number is; `None` if it is no integer from 0 to 2^32 - 1.
-fn read_index(number: Number) -> Option<u32>
+fn index_of_number(number: Number) -> Option<u32>
     ensures { result ≡ index_of (value_of number) }
 {
     u32::try_from(number.as_u64()?).ok()
 }
 
 // Reads a step: a key or an index.
-fn read_step(alloc: Global, view: View<'_>) -> Result<Option<PointerNode>>
+fn try_read_step(alloc: Global, view: View<'_>) -> Result<Option<PointerNode>>
     ensures ok { IfOk result (λ o. option_map step_of o ≡ step_in (seen view.entry)) }
     ensures only { OnlyNoMemory result }
 {
@@ -41,7 +41,7 @@ fn read_step(alloc: Global, view: View<'_>) -> Result<Option<PointerNode>>
         return Ok(Some(PointerNode::Key(key)));
     }
     if let Some(number) = view.as_number() {
-        if let Some(index) = read_index(number) {
+        if let Some(index) = index_of_number(number) {
             return Ok(Some(PointerNode::Index(index as usize)));
         }
     }
@@ -49,14 +49,14 @@ fn read_step(alloc: Global, view: View<'_>) -> Result<Option<PointerNode>>
 }
 
 // Reads the path of which the elements are the steps.
-fn read_steps(alloc: Global, array: ArrayView<'_>) -> Result<Option<Path>>
+fn try_read_steps(alloc: Global, array: ArrayView<'_>) -> Result<Option<Path>>
     ensures ok { IfOk result (λ o. option_map path_steps o
         ≡ each_in step_in (elements_seen array.entry)) }
     ensures only { OnlyNoMemory result }
 {
     let mut path = Path::new(alloc);
     'steps: for element in array.iter() {
-        match read_step(alloc, element)? {
+        match try_read_step(alloc, element)? {
             Some(step) => path.push(step)?,
             None => return Ok(None),
         }
@@ -65,12 +65,12 @@ fn read_steps(alloc: Global, array: ArrayView<'_>) -> Result<Option<Path>>
 }
 
 // Reads a path: an array of steps.
-fn read_path(alloc: Global, view: View<'_>) -> Result<Option<Path>>
+fn try_read_path(alloc: Global, view: View<'_>) -> Result<Option<Path>>
     ensures ok { IfOk result (λ o. option_map path_steps o ≡ path_in (seen view.entry)) }
     ensures only { OnlyNoMemory result }
 {
     match view.as_array() {
-        Some(array) => read_steps(alloc, array),
+        Some(array) => try_read_steps(alloc, array),
         None => Ok(None),
     }
 }
@@ -127,7 +127,7 @@ fn three_params<'a>(params: Option<View<'a>>) -> Option<(View<'a>, View<'a>, Vie
 }
 
 // Reads the params of `get`: `[path]`.
-fn read_get(alloc: Global, params: Option<View<'_>>) -> Result<Option<Operation>>
+fn read_get(alloc: Global, params: Option<View<'_>>) -> Result<Option<RequestedOperation>>
     ensures ok { IfOk result (λ o. option_map operation_denoted o
         ≡ operation_with (codes "get") (positional_params (option_map seen params.entry))) }
     ensures only { OnlyNoMemory result }
@@ -135,14 +135,14 @@ fn read_get(alloc: Global, params: Option<View<'_>>) -> Result<Option<Operation>
     let Some(path) = one_param(params) else {
         return Ok(None);
     };
-    match read_path(alloc, path)? {
-        Some(path) => Ok(Some(Operation::Get(path))),
+    match try_read_path(alloc, path)? {
+        Some(path) => Ok(Some(RequestedOperation::Get(path))),
         None => Ok(None),
     }
 }
 
 // Reads the params of `set`: `[path, value]`.
-fn read_set(alloc: Global, params: Option<View<'_>>) -> Result<Option<Operation>>
+fn read_set_params(alloc: Global, params: Option<View<'_>>) -> Result<Option<RequestedOperation>>
     ensures ok { IfOk result (λ o. option_map operation_denoted o
         ≡ operation_with (codes "set") (positional_params (option_map seen params.entry))) }
     ensures only { OnlyNoMemory result }
@@ -150,15 +150,15 @@ fn read_set(alloc: Global, params: Option<View<'_>>) -> Result<Option<Operation>
     let Some((path, value)) = two_params(params) else {
         return Ok(None);
     };
-    let Some(path) = read_path(alloc, path)? else {
+    let Some(path) = try_read_path(alloc, path)? else {
         return Ok(None);
     };
     let value = value.to_value(alloc)?;
-    Ok(Some(Operation::Change(Edit::Set { path, value })))
+    Ok(Some(RequestedOperation::Change(Edit::Set { path, value })))
 }
 
 // Reads the params of `push`: `[path, value]`.
-fn read_push(alloc: Global, params: Option<View<'_>>) -> Result<Option<Operation>>
+fn read_push_params(alloc: Global, params: Option<View<'_>>) -> Result<Option<RequestedOperation>>
     ensures ok { IfOk result (λ o. option_map operation_denoted o
         ≡ operation_with (codes "push") (positional_params (option_map seen params.entry))) }
     ensures only { OnlyNoMemory result }
@@ -166,15 +166,15 @@ fn read_push(alloc: Global, params: Option<View<'_>>) -> Result<Option<Operation
     let Some((path, value)) = two_params(params) else {
         return Ok(None);
     };
-    let Some(path) = read_path(alloc, path)? else {
+    let Some(path) = try_read_path(alloc, path)? else {
         return Ok(None);
     };
     let value = value.to_value(alloc)?;
-    Ok(Some(Operation::Change(Edit::Push { path, value })))
+    Ok(Some(RequestedOperation::Change(Edit::Push { path, value })))
 }
 
 // Reads the params of `remove`: `[path, step]`.
-fn read_remove(alloc: Global, params: Option<View<'_>>) -> Result<Option<Operation>>
+fn read_remove_params(alloc: Global, params: Option<View<'_>>) -> Result<Option<RequestedOperation>>
     ensures ok { IfOk result (λ o. option_map operation_denoted o
         ≡ operation_with (codes "remove") (positional_params (option_map seen params.entry))) }
     ensures only { OnlyNoMemory result }
@@ -182,17 +182,17 @@ fn read_remove(alloc: Global, params: Option<View<'_>>) -> Result<Option<Operati
     let Some((path, step)) = two_params(params) else {
         return Ok(None);
     };
-    let Some(path) = read_path(alloc, path)? else {
+    let Some(path) = try_read_path(alloc, path)? else {
         return Ok(None);
     };
-    match read_step(alloc, step)? {
-        Some(step) => Ok(Some(Operation::Change(Edit::Remove { path, step }))),
+    match try_read_step(alloc, step)? {
+        Some(step) => Ok(Some(RequestedOperation::Change(Edit::Remove { path, step }))),
         None => Ok(None),
     }
 }
 
 // Reads the params of `insert`: `[path, key, value]`.
-fn read_insert(alloc: Global, params: Option<View<'_>>) -> Result<Option<Operation>>
+fn read_insert_params(alloc: Global, params: Option<View<'_>>) -> Result<Option<RequestedOperation>>
     ensures ok { IfOk result (λ o. option_map operation_denoted o
         ≡ operation_with (codes "insert") (positional_params (option_map seen params.entry))) }
     ensures only { OnlyNoMemory result }
@@ -203,16 +203,18 @@ fn read_insert(alloc: Global, params: Option<View<'_>>) -> Result<Option<Operati
     let Some(key) = key.text() else {
         return Ok(None);
     };
-    let Some(path) = read_path(alloc, path)? else {
+    let Some(path) = try_read_path(alloc, path)? else {
         return Ok(None);
     };
     let key = Text::copy(alloc, key)?;
     let value = value.to_value(alloc)?;
-    Ok(Some(Operation::Change(Edit::Insert { path, key, value })))
+    Ok(Some(RequestedOperation::Change(Edit::Insert { path, key, value })))
 }
 
 // Returns the operation, or the error of invalid params.
-fn or_invalid(operation: Option<Operation>) -> std::result::Result<Operation, RpcError>
+fn or_invalid(
+    operation: Option<RequestedOperation>,
+) -> std::result::Result<RequestedOperation, RpcError>
     ensures { result ≡ ok_or operation InvalidParams }
 {
     match operation {
@@ -229,10 +231,10 @@ pub(crate) fn is_edit(method: &str) -> bool
 }
 
 /// Reads what a request asks for, or the error that it gets.
-pub(crate) fn read_operation(
+pub(crate) fn read_requested_operation(
     alloc: Global,
     request: &Request<'_>,
-) -> Result<std::result::Result<Operation, RpcError>>
+) -> Result<std::result::Result<RequestedOperation, RpcError>>
     ensures ok { IfOk result (λ r. result_map_both operation_denoted (λ f. f) r
         ≡ requested_operation (request_seen request.now)) }
     ensures only { OnlyNoMemory result }
@@ -240,10 +242,10 @@ pub(crate) fn read_operation(
     let params = request.params;
     let operation = match request.method {
         "get" => read_get(alloc, params)?,
-        "set" => read_set(alloc, params)?,
-        "insert" => read_insert(alloc, params)?,
-        "push" => read_push(alloc, params)?,
-        "remove" => read_remove(alloc, params)?,
+        "set" => read_set_params(alloc, params)?,
+        "insert" => read_insert_params(alloc, params)?,
+        "push" => read_push_params(alloc, params)?,
+        "remove" => read_remove_params(alloc, params)?,
         _ => return Ok(Err(RpcError::MethodNotFound)),
     };
     Ok(or_invalid(operation))

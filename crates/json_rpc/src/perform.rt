@@ -5,7 +5,7 @@ ghost use Rattle.json_model.specs.Edit.{edited_once};
 ghost use Rattle.json_value.specs.Denotes.{tree_of};
 ghost use Rattle.json_value.specs.Edits.{step_of, steps_of, path_steps, edit_of};
 ghost use Rattle.json_value.specs.Seen.{seen};
-ghost use Rattle.json_rpc.specs.Methods.{rpc_error_of, step_into, tree_at_path, get as get_at, change as change_by, performed};
+ghost use Rattle.json_rpc.specs.Methods.{rpc_error_of, step_into, tree_at_path, respond_to_get as get_at, change_document as change_by, performed};
 ghost use Rattle.json_rpc.specs.Perform.{container_type, Applies};
 ghost use Rattle.json_rpc.specs.Serving.{responded};
 ghost use Rattle.json_io.specs.Errors.{OnlyNoMemory};
@@ -13,7 +13,7 @@ ghost use Rattle.json_io.specs.Errors.{OnlyNoMemory};
 use crate::error::RpcError;
 use crate::response::{Respond, error_response, result_response};
 use json_doc::JsonType;
-use json_text::{ErrorCode, Result};
+use json_io::{ErrorCode, Result};
 use json_value::{Edit, Path, PointerNode, Value, View};
 use std::alloc::Global;
 
@@ -42,7 +42,7 @@ fn step_into<'a>(here: View<'a>, step: &PointerNode) -> std::result::Result<View
 }
 
 // Returns the value that a path leads to, or the error that there is none.
-fn lookup<'a>(root: View<'a>, path: &[PointerNode]) -> std::result::Result<View<'a>, RpcError>
+fn find_at_path<'a>(root: View<'a>, path: &[PointerNode]) -> std::result::Result<View<'a>, RpcError>
     ensures { result_map_both seen (λ f. f) result
         ≡ result_map_both (λ u. u) rpc_error_of
         (tree_at_path (steps_of path.now) (seen root.entry)) }
@@ -57,8 +57,8 @@ fn lookup<'a>(root: View<'a>, path: &[PointerNode]) -> std::result::Result<View<
     Ok(here)
 }
 
-/// Returns the response of `get` to a request with this id; `None` without an id.
-pub(crate) fn get<R: Respond>(
+/// Returns the response of `respond_to_get` to a request with this id; `None` without an id.
+pub(crate) fn respond_to_get<R: Respond>(
     alloc: Global,
     document: &Value,
     path: &Path,
@@ -70,7 +70,7 @@ pub(crate) fn get<R: Respond>(
         ≡ (tree_of document.now, option_map R.response o)) }
     ensures only { OnlyNoMemory result }
 {
-    match lookup(document.view(), path.steps()) {
+    match find_at_path(document.view(), path.steps()) {
         Ok(place) => {
             let value = place.to_value(alloc)?;
             result_response(alloc, value, id)
@@ -101,7 +101,7 @@ fn apply(
 }
 
 /// Applies an edit and returns the response to a request with this id; `None` without an id.
-pub(crate) fn change<R: Respond>(
+pub(crate) fn change_document<R: Respond>(
     alloc: Global,
     document: &mut Value,
     edit: &Edit,

@@ -10,9 +10,9 @@ ghost use Rattle.json_rpc.specs.ReplyTexts.{result_start, error_start, reply_end
 use crate::error::RpcError;
 use crate::response::Respond;
 use crate::service::Service;
+use json_io::{Result, Sink, flush_all, put_all};
+use json_layout::{BufferedWriter, OneLine, answered, show_piece};
 use json_lines::Line;
-use json_print::{BufferedWriter, OneLine, answered, show_piece};
-use json_text::{Result, Sink, flush_all, put_all};
 use json_value::Value;
 use std::alloc::Global;
 
@@ -67,7 +67,7 @@ fn error_start(error: RpcError) -> &'static str
 }
 
 // Writes some bytes.
-fn write_bytes<W: Sink>(bytes: &[u8], out: &mut BufferedWriter<W>) -> Result<()>
+fn write_reply_bytes<W: Sink>(bytes: &[u8], out: &mut BufferedWriter<W>) -> Result<()>
     ensures { WritesText (⟦<BufferedWriter<W> as Sink>⟧.state out.old)
         (⟦<BufferedWriter<W> as Sink>⟧.state out.new) bytes.now result }
 {
@@ -80,7 +80,7 @@ fn write_before<W: Sink>(text: &str, value: &Value, out: &mut BufferedWriter<W>)
         (⟦<BufferedWriter<W> as Sink>⟧.state out.new)
         (text.now ++ shown None 0 (tree_of value.now)) result }
 {
-    match write_bytes(text.as_bytes(), out) {
+    match write_reply_bytes(text.as_bytes(), out) {
         Ok(()) => value.view().print(OneLine, out),
         Err(error) => Err(error),
     }
@@ -126,7 +126,7 @@ fn write_failed<W: Sink>(error: RpcError, id: &Value, out: &mut BufferedWriter<W
         (⟦<BufferedWriter<W> as Sink>⟧.state out.new)
         (error_start error ++ reply_end (tree_of id.now)) result }
 {
-    match write_bytes(error_start(error).as_bytes(), out) {
+    match write_reply_bytes(error_start(error).as_bytes(), out) {
         Ok(()) => write_end(id, out),
         Err(error) => Err(error),
     }

@@ -8,7 +8,7 @@ ghost use Rattle.json_rpc.specs.Responses.{error_object, response as response_of
 ghost use Rattle.json_io.specs.Errors.{OnlyNoMemory};
 
 use crate::error::RpcError;
-use json_text::Result;
+use json_io::Result;
 use json_value::{Object, Pair, Text, Value, View};
 use std::alloc::Global;
 

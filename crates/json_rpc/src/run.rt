@@ -11,9 +11,9 @@ use crate::lines::serve_lines;
 use crate::message::MAX_LINE_BYTES;
 use crate::service::Service;
 use json_command::{BAD_WORDS, Status, report};
+use json_io::{Error, ErrorCode, LentSink, Place, Result, Sink, Source, Words, flush_all};
+use json_layout::{BufferedWriter, WriteBuffer};
 use json_lines::LineReader;
-use json_print::{Buffer, BufferedWriter};
-use json_text::{Error, ErrorCode, LentSink, Place, Result, Sink, Source, Words, flush_all};
 use std::alloc::Global;
 
 // Serves all lines of the source, with replies to the writer, and returns the writer.
@@ -54,7 +54,7 @@ fn serve_all<S: Source, K: Sink>(alloc: Global, source: &mut S, sink: &mut K) ->
         (service_streams (S.state source.new) (K.state sink.new)) e) }
 {
     let reader = LineReader::new(alloc, MAX_LINE_BYTES)?;
-    let buffer = Buffer::new(alloc)?;
+    let buffer = WriteBuffer::new(alloc)?;
     let writer = BufferedWriter::with_buffer(buffer, LentSink::new(sink));
     let (writer, outcome) = serve_buffered(alloc, reader, source, writer);
     let _sink = writer.into_inner().into_inner();
@@ -64,18 +64,18 @@ fn serve_all<S: Source, K: Sink>(alloc: Global, source: &mut S, sink: &mut K) ->
 // Serves all lines if there are no words.
 fn serve_without_words<S: Source, K: Sink>(
     alloc: Global,
-    words: &Words,
+    arguments: &Words,
     source: &mut S,
     sink: &mut K,
 ) -> Result<()>
-    ensures none { OnOk result (words.now ≡ []) }
+    ensures none { OnOk result (arguments.now ≡ []) }
     ensures ok { OnOk result (ServesAll (service_streams (S.state source.old) (K.state sink.old))
         (service_streams (S.state source.new) (K.state sink.new))) }
-    ensures err { IfErr result (λ e. ServingRunFails words.now
+    ensures err { IfErr result (λ e. ServingRunFails arguments.now
         (service_streams (S.state source.old) (K.state sink.old))
         (service_streams (S.state source.new) (K.state sink.new)) e) }
 {
-    if words.len() != 0 {
+    if arguments.len() != 0 {
         return Err(BAD_WORDS);
     }
     serve_all(alloc, source, sink)
@@ -92,18 +92,18 @@ fn run_status(error: &Error) -> u8
 }
 
 // Does all that `run_rpc` does.
-fn run_words<S: Source, K: Sink, E: Sink>(
+fn serve_source<S: Source, K: Sink, E: Sink>(
     alloc: Global,
-    words: &Words,
+    arguments: &Words,
     source: &mut S,
     sink: &mut K,
     errs: &mut E,
 ) -> u8
-    ensures { ServingResult words.now (service_streams (S.state source.old) (K.state sink.old))
+    ensures { ServingResult arguments.now (service_streams (S.state source.old) (K.state sink.old))
         (service_streams (S.state source.new) (K.state sink.new))
         (E.state errs.old) (E.state errs.new) result }
 {
-    match serve_without_words(alloc, words, source, sink) {
+    match serve_without_words(alloc, arguments, source, sink) {
         Ok(()) => Status::Success.number(),
         Err(error) => {
             report(errs, &error);
@@ -123,7 +123,7 @@ fn run_words<S: Source, K: Sink, E: Sink>(
 /// A line of whitespace alone has no reply. A line of more than 1,048,576 bytes, or that is no JSON
 /// text (RFC 8259) of at most 254 levels in UTF-8, gets the error -32700, and the run goes on.
 ///
-/// Returns the status: 0 if all lines were served, 2 if there are any `words`, 4 if reading failed,
+/// Returns the status: 0 if all lines were served, 2 if there are any `arguments`, 4 if reading failed,
 /// 5 if writing failed, 6 if memory ran out, and 7 if the source has more than 4,294,967,295 bytes.
 /// If the status is not 0, `errs` gets the text of the error, and after 4, 5, 6 and 7 `sink` has a
 /// prefix of the replies.
@@ -143,7 +143,7 @@ fn run_words<S: Source, K: Sink, E: Sink>(
 /// ```
 pub fn run_rpc<S: Source, K: Sink, E: Sink>(
     alloc: Global,
-    words: &Words,
+    arguments: &Words,
     source: &mut S,
     sink: &mut K,
     errs: &mut E,
@@ -158,25 +158,25 @@ pub fn run_rpc<S: Source, K: Sink, E: Sink>(
         → WritesAll (service_streams (S.state source.old) (K.state sink.old))
         (service_streams (S.state source.new) (K.state sink.new)) }
     ensures silent { result ≡ 0 → E.state errs.new ≡ E.state errs.old }
-    ensures failed { result ≢ 0 → ReportsFailure words.now
+    ensures failed { result ≢ 0 → ReportsFailure arguments.now
         (service_streams (S.state source.old) (K.state sink.old))
         (service_streams (S.state source.new) (K.state sink.new))
         (E.state errs.old) (E.state errs.new) result }
-    ensures refused { result ≡ 2 → RefusesAnyWords words.now
+    ensures refused { result ≡ 2 → RefusesAnyWords arguments.now
         (service_streams (S.state source.old) (K.state sink.old))
         (service_streams (S.state source.new) (K.state sink.new)) bad_words }
-    ensures words { words.now ≢ [] → result ≡ 2 }
+    ensures arguments { arguments.now ≢ [] → result ≡ 2 }
     ensures known { IsRunStatus result }
     ensures reading { MeansReadFailed (S.state source.old) (S.state source.new) result }
     ensures writing { MeansWriteFailed (K.state sink.old) (K.state sink.new) result }
     ensures large { result ≡ 7 → (bytes : List ℕ)
         × GivesBytes (S.state source.old) (S.state source.new) bytes
         × (max_bytes < length bytes) }
-    ensures read_told { ReturnsReadStatus (S.state source.old) (S.state source.new) result }
-    ensures write_told { ReturnsWriteStatus (K.state sink.old) (K.state sink.new) result }
-    ensures complete { NothingFailsServing words.now
+    ensures read_error { ReturnsReadStatus (S.state source.old) (S.state source.new) result }
+    ensures write_error { ReturnsWriteStatus (K.state sink.old) (K.state sink.new) result }
+    ensures complete { NothingFailsServing arguments.now
         (service_streams (S.state source.old) (K.state sink.old))
         (service_streams (S.state source.new) (K.state sink.new)) → (result ≡ 0) ⊎ (result ≡ 6) }
 {
-    run_words(alloc, words, source, sink, errs)
+    serve_source(alloc, arguments, source, sink, errs)
 }

@@ -12,16 +12,16 @@ ghost use Rattle.json_rpc.specs.declared.error.RpcError.TheVariants.{InvalidRequ
 ghost use Rattle.json_io.specs.Errors.{OnlyNoMemory};
 
 use crate::error::RpcError;
-use crate::operation::{Operation, is_edit, read_operation};
-use crate::perform::{change, get};
+use crate::operation::{RequestedOperation, is_edit, read_requested_operation};
+use crate::perform::{change_document, respond_to_get};
 use crate::request::{Request, read_request};
 use crate::response::{Respond, error_response};
-use json_text::Result;
+use json_io::Result;
 use json_value::{ArrayView, Value, View};
 use std::alloc::Global;
 
 // Executes a request and returns its response; `None` for a notification.
-fn execute<R: Respond>(
+fn perform_request<R: Respond>(
     alloc: Global,
     document: &mut Value,
     request: &Request<'_>,
@@ -34,9 +34,9 @@ fn execute<R: Respond>(
         → document.new ≡ document.old }
     ensures only { OnlyNoMemory result }
 {
-    match read_operation(alloc, request)? {
-        Ok(Operation::Get(path)) => get(alloc, document, &path, request.id),
-        Ok(Operation::Change(edit)) => change(alloc, document, &edit, request.id),
+    match read_requested_operation(alloc, request)? {
+        Ok(RequestedOperation::Get(path)) => respond_to_get(alloc, document, &path, request.id),
+        Ok(RequestedOperation::Change(edit)) => change_document(alloc, document, &edit, request.id),
         Err(error) => error_response(alloc, error, request.id),
     }
 }
@@ -62,7 +62,7 @@ fn serve_member<R: Respond>(
     ensures only { OnlyNoMemory result }
 {
     match read_request(view) {
-        Some(request) => execute(alloc, document, &request),
+        Some(request) => perform_request(alloc, document, &request),
         None => {
             let reply = invalid_request(alloc)?;
             Ok(Some(reply))

@@ -12,8 +12,8 @@ use crate::error::RpcError;
 use crate::message::{Message, read_message};
 use crate::response::Respond;
 use crate::serve::serve_tree;
+use json_io::Result;
 use json_lines::Line;
-use json_text::Result;
 use json_value::Value;
 use std::alloc::Global;
 
@@ -70,7 +70,7 @@ fn serve_message<R: Respond>(
 }
 
 // Reads a line.
-fn error_message(alloc: Global, line: Line<'_>) -> Result<Message>
+fn read_line(alloc: Global, line: Line<'_>) -> Result<Message>
     ensures ok { IfOk result (λ m. LineIsMessage line.entry (message_denoted m)) }
     ensures only { OnlyNoMemory result }
 {
@@ -150,7 +150,7 @@ impl Service {
         ensures reads { OnlyReads line.entry → self.new ≡ self.old }
         ensures only { OnlyNoMemory result }
     {
-        let message = error_message(alloc, line)?;
+        let message = read_line(alloc, line)?;
         serve_message(alloc, &mut self.document, message)
     }
 }

@@ -2,7 +2,7 @@
 use Rattle.std.specs.Prelude.{pos, ◌^◌, []}
 use Rattle.json_grammar.specs.Tree.{Tree, list, Trees, no_trees, tree_and}
 use Rattle.json_model.specs.Datum.{Datum, integer_datum, list_datum, list_data}
-use Rattle.json_data.specs.Reading.{Reading, Series, gives_all, prepend_reading, as_list, read_integer, between}
+use Rattle.json_data.specs.Reading.{Reading, Series, gives_all, prepend_reading, as_list, read_integer, is_between}
 use Rattle.json_sample_vectors.specs.declared.nested.Nested.{Nested, fold-Nested}
 use Rattle.json_sample_vectors.specs.declared.nested.Nested.TheOpen.{Nested-F}
 
@@ -18,7 +18,7 @@ nested_datum = fold-Nested Datum nested_step
 abbrev mutual
   pub read_nested : Tree → Reading
   read_nested (list ts) = as_list (each_nested ts)
-  read_nested t = read_integer (between 0 (2 ^ 8)) t
+  read_nested t = read_integer (is_between 0 (2 ^ 8)) t
 
   pub each_nested : Trees → Series
   each_nested no_trees = gives_all []

@@ -1,7 +1,7 @@
 // A program's own type that contains itself.
 ghost use Rattle.json_sample_vectors.specs.Nested.{nested_datum, read_nested};
 
-use json_data::{DeserializeFrom, Lent, TokenKind, Tokens, leave_after, refusal};
+use json_data::{DeserializeFrom, InputStr, TokenKind, Tokens, error_without_place, leave_after};
 use json_text::{ErrorCode, Result};
 use std::alloc::Global;
 
@@ -14,7 +14,7 @@ pub enum Nested {
     List(Vec<Nested>),
 }
 
-impl<S: Lent> DeserializeFrom<S> for Nested {
+impl<S: InputStr> DeserializeFrom<S> for Nested {
     ghost datum = { nested_datum };
 
     ghost from_tree = { read_nested };
@@ -30,7 +30,7 @@ impl<S: Lent> DeserializeFrom<S> for Nested {
             match <Nested as DeserializeFrom<S>>::deserialize(alloc, tokens) {
                 Ok(element) => {
                     if all.push(element).is_err() {
-                        return Err(refusal(ErrorCode::NoMemory));
+                        return Err(error_without_place(ErrorCode::NoMemory));
                     }
                 }
                 Err(e) => return Err(leave_after(tokens, e)),

@@ -4,10 +4,12 @@ ghost use Rattle.json_model.specs.Datum.{null_datum, text_datum, integer_datum, 
 ghost use Rattle.json_data.specs.Members.{read_object};
 ghost use Rattle.json_sample_vectors.specs.Person.{person_parts, person_step, person_datum, person_made};
 
-use json_data::{DeserializeFrom, Lent, Members, Tokens, find_members, read_members, refusal};
+use json_data::{
+    DeserializeFrom, InputStr, Members, Tokens, error_without_place, read_members, try_read_members,
+};
 use json_print::Events;
 use json_text::{ErrorCode, Result};
-use json_write::{Field, KeyRoom, Serialize, give_fields};
+use json_write::{Field, KeyRoom, Serialize, serialize_fields};
 use std::alloc::Global;
 
 /// A person: an object with the members `name` and `age`, and `phones` where there are any. Others
@@ -30,7 +32,7 @@ pub struct PersonMembers {
     phones: Vec<String>,
 }
 
-impl<S: Lent> Members<S> for PersonMembers {
+impl<S: InputStr> Members<S> for PersonMembers {
     ghost so_far = { λ m. person_parts (option_datum (λ s. text_datum (string_bytes s)) m.name)
         (option_datum (λ n. integer_datum (pos n)) m.age)
         (list_datum (list_data (map (λ s. text_datum (string_bytes s)) m.phones.items))) };
@@ -57,7 +59,7 @@ impl<S: Lent> Members<S> for PersonMembers {
     }
 }
 
-impl<S: Lent> DeserializeFrom<S> for Person {
+impl<S: InputStr> DeserializeFrom<S> for Person {
     ghost datum = { λ p. person_datum (string_bytes p.name) (integer_datum (pos p.age))
         (list_datum (list_data (map (λ s. text_datum (string_bytes s)) p.phones.items))) };
 
@@ -76,18 +78,18 @@ impl<S: Lent> DeserializeFrom<S> for Person {
                 age,
                 phones: members.phones,
             }),
-            _ => Err(refusal(ErrorCode::TypeUnmatched)),
+            _ => Err(error_without_place(ErrorCode::TypeUnmatched)),
         }
     }
 
     // This may be left out: with it a list of people asks no kind before each.
-    fn found<T: Tokens<S>>(alloc: Global, tokens: &mut T) -> Result<Option<Person>> {
+    fn try_deserialize<T: Tokens<S>>(alloc: Global, tokens: &mut T) -> Result<Option<Person>> {
         let mut members = PersonMembers {
             name: None,
             age: None,
             phones: Vec::new(alloc),
         };
-        if !find_members(alloc, &mut members, tokens)? {
+        if !try_read_members(alloc, &mut members, tokens)? {
             return Ok(None);
         }
         match (members.name, members.age) {
@@ -96,7 +98,7 @@ impl<S: Lent> DeserializeFrom<S> for Person {
                 age,
                 phones: members.phones,
             })),
-            _ => Err(refusal(ErrorCode::TypeUnmatched)),
+            _ => Err(error_without_place(ErrorCode::TypeUnmatched)),
         }
     }
 }
@@ -122,7 +124,7 @@ impl Serialize for Person {
                 },
             ),
         );
-        give_fields(&fields, out)
+        serialize_fields(&fields, out)
     }
 
     fn key<'k>(&'k self, room: &'k mut KeyRoom) -> Option<&'k str> {

@@ -4,7 +4,7 @@ ghost use Rattle.json_model.specs.Datum.{text_datum, list_datum, list_data, rows
 
 use json_print::Events;
 use json_text::Result;
-use json_write::{Field, KeyRoom, Serialize, give_fields};
+use json_write::{Field, KeyRoom, Serialize, serialize_fields};
 
 /// A name with its tags: an object of the members `name` and `tags`, in this order.
 ///
@@ -40,7 +40,7 @@ impl Serialize for Tagged<'_> {
                 value: &self.tags,
             },
         );
-        give_fields(&fields, out)
+        serialize_fields(&fields, out)
     }
 
     fn key<'k>(&'k self, room: &'k mut KeyRoom) -> Option<&'k str> {

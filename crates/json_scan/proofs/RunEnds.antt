@@ -22,8 +22,8 @@ ends_within class b i j n c l m h d s = record {
 }
 
 -- the run ends after a piece of it
-pub ends_behind : (class : ℕ → Type 0) (b : List ℕ) (i j e : ℕ) → i ≤ j → Each class b i j → EndsAt class b j e → EndsAt class b i e
-ends_behind class b i j e l h d = record {
+pub ends_after : (class : ℕ → Type 0) (b : List ℕ) (i j e : ℕ) → i ≤ j → Each class b i j → EndsAt class b j e → EndsAt class b i e
+ends_after class b i j e l h d = record {
   order = omega (arith, d.order);
   within = d.within;
   each = λ k m r. elim (cases_lt k j) [ inl e ↦ h k m e | inr e ↦ d.each k e r ];

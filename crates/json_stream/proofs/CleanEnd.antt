@@ -2,7 +2,7 @@
 use Rattle.std.proofs.Common.{◌≡◌, inl, ◌∙◌, ℕ, zero, suc, ◌-◌, List, [], ◌∷◌, ◌++◌, Bool, length, take, drop, IsUtf8, Result, Ok, Err, IfOk, sym, ap, subst, arith, take_all, length-drop}
 use Rattle.std.proofs.lemmas.List.{append-nil}
 use Rattle.std.specs.Result.{IfErr, IsErrAnd}
-use Rattle.json_grammar.specs.declared.Spot.TheVariants.{Value as at_value, Done as done}
+use Rattle.json_grammar.specs.declared.ExpectedPart.TheVariants.{Value as at_value, Done as done}
 use Rattle.json_grammar.specs.Fault.{reads, value_fault, eof_while_parsing, opens}
 use Rattle.json_grammar.specs.Grammar.{ws, value, ◌then◌}
 use Rattle.json_grammar.specs.Place.{place, reading, start, read_value, takes_at_value}
@@ -17,9 +17,9 @@ use Rattle.json_io.specs.declared.error.Place.{Place}
 use Rattle.json_io.specs.declared.error.Place.TheVariants as at
 use Rattle.json_text.specs.Ends.{NothingLeft}
 use Rattle.json_text.specs.Faults.{IsValueFault}
-use Rattle.json_text.proofs.OneFaultAt.{code_of, stands}
+use Rattle.json_text.proofs.OneFaultAt.{code_of, is_there}
 use Rattle.json_data.specs.Reading.{Reading}
-use Rattle.json_stream.specs.Streams.{InputState, standing, told_at, TakesNextValue, NextValueFails, TellsEnd}
+use Rattle.json_stream.specs.Streams.{InputState, parser_at, reported_place, TakesNextValue, NextValueFails, TellsEnd}
 
 front : (n : ℕ) (b : List ℕ) → ws b → ws (take n b)
 front zero b h = tt
@@ -43,19 +43,19 @@ module _ (lossy : Bool) where
       value_short lossy limit b (inl ([], at_value, ([], s))) (not_done b h) (omega arith)
 
 -- so that is the error
-pub end_is_told : (lossy : Bool) (limit : ℕ) (b : List ℕ) (c : ErrorCode) (k : ℕ) → ws b → IsValueFault lossy limit b c k → (c ≡ code.EofWhileParsing) × (k ≡ length b)
-end_is_told lossy limit b c k h i =
-    let s = stands (λ row. value_fault lossy limit b row k) c i in
+pub end_is_reported : (lossy : Bool) (limit : ℕ) (b : List ℕ) (c : ErrorCode) (k : ℕ) → ws b → IsValueFault lossy limit b c k → (c ≡ code.EofWhileParsing) × (k ≡ length b)
+end_is_reported lossy limit b c k h i =
+    let s = is_there (λ row. value_fault lossy limit b row k) c i in
     let o = one_value_fault lossy limit b s.row eof_while_parsing k (length b) s.holds (end_is_fault lossy limit b h) in
     (s.same ∙ ap code_of o.0, o.1)
 
-space_left : (s : InputState) → NothingLeft (standing s) → ws (drop s.index s.text)
+space_left : (s : InputState) → NothingLeft (parser_at s) → ws (drop s.index s.text)
 space_left s n = let o = n.order in subst ws (take_all (length s.text - s.index) (drop s.index s.text) (omega (arith, length-drop s.index s.text))) n.space
 
-pub none_taken : {A : Type 0} (f : Tree → Reading) (old : InputState) (r : Reading) (new : InputState) → NothingLeft (standing old) → TakesNextValue f old r new → A
+pub none_taken : {A : Type 0} (f : Tree → Reading) (old : InputState) (r : Reading) (new : InputState) → NothingLeft (parser_at old) → TakesNextValue f old r new → A
 none_taken f old r new n t = absurd (no_value old.lossy (drop old.index old.text) t.tree t.size (space_left old n) t.value)
 
-pub end_fails : (f : Tree → Reading) (old : InputState) (c : ErrorCode) (p : Place) (new : InputState) → IsUtf8 old.text → NothingLeft (standing old) → NextValueFails f old c p new → TellsEnd old c p
+pub end_fails : (f : Tree → Reading) (old : InputState) (c : ErrorCode) (p : Place) (new : InputState) → IsUtf8 old.text → NothingLeft (parser_at old) → NextValueFails f old c p new → TellsEnd old c p
 end_fails f old code.NoMemory at.None new u n h = tt
 end_fails f old code.InvalidUTF8 p new u n h = let v = h.0.1 in absurd (v.longest (length old.text) v.short (subst IsUtf8 (sym (take_all (length old.text) old.text (omega arith))) u))
 end_fails f old code.TypeUnmatched p new u n h = none_taken f old _ new n h.takes
@@ -64,11 +64,11 @@ end_fails f old code.ExpectedNumericKey p new u n h = none_taken f old _ new n h
 end_fails f old code.EofWhileParsing p new u n h =
     let o = n.order in
     let k = h.1.0 in
-    let q : k ≡ length (drop old.index old.text) = (end_is_told old.lossy 254 (drop old.index old.text) code.EofWhileParsing k (space_left old n) h.1.2).1 in
-    h.1.1 ∙ ap (told_at old) (omega (arith, length-drop old.index old.text))
-end_fails f old c p new u n h = absurd (let q = (end_is_told old.lossy 254 (drop old.index old.text) c h.1.0 (space_left old n) h.1.2).0 in cc)
+    let q : k ≡ length (drop old.index old.text) = (end_is_reported old.lossy 254 (drop old.index old.text) code.EofWhileParsing k (space_left old n) h.1.2).1 in
+    h.1.1 ∙ ap (reported_place old) (omega (arith, length-drop old.index old.text))
+end_fails f old c p new u n h = absurd (let q = (end_is_reported old.lossy 254 (drop old.index old.text) c h.1.0 (space_left old n) h.1.2).0 in cc)
 
 pub clean_end : {X : Type 0} (f : Tree → Reading) (old new : InputState) (r : Result X Error) (g : X → Reading) → IfOk r (λ v. TakesNextValue f old (g v) new) → IfErr r (λ e. NextValueFails f old e.code e.place new)
-    → IsUtf8 old.text → NothingLeft (standing old) → IsErrAnd r (λ e. TellsEnd old e.code e.place)
+    → IsUtf8 old.text → NothingLeft (parser_at old) → IsErrAnd r (λ e. TellsEnd old e.code e.place)
 clean_end f old new (Ok v) g h i u n = none_taken f old (g v) new n h
 clean_end f old new (Err e) g h i u n = end_fails f old e.code e.place new u n i

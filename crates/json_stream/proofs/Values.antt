@@ -23,17 +23,17 @@ use Rattle.json_io.specs.declared.error.Place.TheVariants as place
 use Rattle.json_text.specs.Ends.{ComesNext, ReadsEnd, TrailsAt, LacksEnd}
 use Rattle.json_io.specs.Errors.{no_memory}
 use Rattle.json_text.specs.Faults.{ValueFaultFrom}
-use Rattle.json_text.specs.Parsing.{ParserState, taken}
+use Rattle.json_text.specs.Parsing.{ParserState, consumed}
 use Rattle.json_io.specs.Positions.{place_at}
 use Rattle.json_scan.specs.Runs.{ByteAt}
 use Rattle.json_io.specs.Utf8.{Utf8Cause}
-use Rattle.json_text.proofs.OneFaultAt.{stands}
+use Rattle.json_text.proofs.OneFaultAt.{is_there}
 use Rattle.json_data.specs.Reading.{Reading}
 use Rattle.json_tokens.specs.Refusals.{is_refusal}
-use Rattle.json_tokens.specs.Stand.{over_text, TakesTree}
+use Rattle.json_tokens.specs.TokensStates.{over_text, TakesTree}
 use Rattle.json_tokens.specs.Text.{TextTokensState, TextFails, HasReadValue, text_taken, text_tokens_state}
 use Rattle.json_text.specs.Repaired.{RepairedText}
-use Rattle.json_stream.specs.Streams.{InputState, stands_at, in_input, PlaceIsWithin, TakesNextValue, RefusesNextValue, FaultIsLeft, NextValueFails, IsTextAt}
+use Rattle.json_stream.specs.Streams.{InputState, input_state, in_input, PlaceIsWithin, TakesNextValue, RefusesNextValue, FaultIsLeft, NextValueFails, IsTextAt}
 
 -- the source of tokens reads this text from there on
 pub record ReadsFrom (b : List ℕ) (l : Bool) (i : ℕ) (m : TextTokensState) : Type 0 where
@@ -91,37 +91,37 @@ reads_some lossy b t n r =
 
 -- a tree was taken, which is that of the value, and the place is right after it
 pub takes_value : (f : Tree → Reading) (b : List ℕ) (l : Bool) (o : Option RepairedText) (i j : ℕ) (s m : TextTokensState) (t : Tree) (r : Reading) → ReadsFrom b l i m → IsUtf8 b → text_taken s [] → TakesTree text_taken text_tokens_state s m t
-    → HasReadValue m → j ≡ m.parser.index → m.parser.start ≤ j → f t ≡ r → TakesNextValue f (stands_at b l o i) r (stands_at b l o j)
+    → HasReadValue m → j ≡ m.parser.index → m.parser.start ≤ j → f t ≡ r → TakesNextValue f (input_state b l o i) r (input_state b l o j)
 takes_value f b l o i j s m t r e u h k g n q a =
     let w = g (tokens t) (k.takes.on [] h) in
     let same : w.0 ≡ t = sym (tokens_injective t w.0 w.2) in
     let start : m.parser.start ≡ i = e.start in
-    let place : j ≡ i + taken m.parser = omega arith in
-    let value : reads l (drop i b) w.0 (taken m.parser) =
-    subst (λ (x : Bool). reads x (drop i b) w.0 (taken m.parser)) e.mode (subst (λ (y : List ℕ). reads m.parser.lossy y w.0 (taken m.parser)) (ap₂ drop e.start e.text) w.1) in
-    let some : 0 < taken m.parser = reads_some l (drop i b) w.0 (taken m.parser) value in
+    let place : j ≡ i + consumed m.parser = omega arith in
+    let value : reads l (drop i b) w.0 (consumed m.parser) =
+    subst (λ (x : Bool). reads x (drop i b) w.0 (consumed m.parser)) e.mode (subst (λ (y : List ℕ). reads m.parser.lossy y w.0 (consumed m.parser)) (ap₂ drop e.start e.text) w.1) in
+    let some : 0 < consumed m.parser = reads_some l (drop i b) w.0 (consumed m.parser) value in
     record {
       utf8 = u;
       tree = w.0;
-      size = taken m.parser;
+      size = consumed m.parser;
       value = value;
       levels = subst (λ (n : ℕ). depth w.0 ≤ n) e.limit w.3;
       answer = ap f same ∙ a;
-      behind = ap (stands_at b l o) place;
+      after = ap (input_state b l o) place;
       forward = omega arith;
       within = let l = value.fits in omega (arith, length-drop i b);
     }
 
 -- after a value a character begins
-pub behind_value : (lossy : Bool) (b : List ℕ) (i n : ℕ) (t : Tree) → IsUtf8 b → IsCharBoundary b i → reads lossy (drop i b) t n → IsCharBoundary b (i + n)
-behind_value lossy b i n t u h r =
+pub after_value : (lossy : Bool) (b : List ℕ) (i n : ℕ) (t : Tree) → IsUtf8 b → IsCharBoundary b i → reads lossy (drop i b) t n → IsCharBoundary b (i + n)
+after_value lossy b i n t u h r =
     let c = drop i b in
     IsCharBoundary-from_rest b i n h.0 (IsCharBoundary-from_take c n (IsUtf8-drop b i u h) r.fits (text_utf8 lossy t (take n c) (value_is_text lossy c t n r)))
 
-pub boundary_behind : (f : Tree → Reading) (b : List ℕ) (l : Bool) (o : Option RepairedText) (i j : ℕ) (r : Reading) → IsCharBoundary b i → TakesNextValue f (stands_at b l o i) r (stands_at b l o j) → IsCharBoundary b j
-boundary_behind f b l o i j r h k =
-    let e : j ≡ i + k.size = ap (λ (s : InputState). s.index) k.behind in
-    subst (IsCharBoundary b) (sym e) (behind_value l b i k.size k.tree k.utf8 h k.value)
+pub boundary_after : (f : Tree → Reading) (b : List ℕ) (l : Bool) (o : Option RepairedText) (i j : ℕ) (r : Reading) → IsCharBoundary b i → TakesNextValue f (input_state b l o i) r (input_state b l o j) → IsCharBoundary b j
+boundary_after f b l o i j r h k =
+    let e : j ≡ i + k.size = ap (λ (s : InputState). s.index) k.after in
+    subst (IsCharBoundary b) (sym e) (after_value l b i k.size k.tree k.utf8 h k.value)
 
 -- a fault lies in the input, or at its end
 fault_within : (l : Bool) (limit : ℕ) (b : List ℕ) (row : FaultCode) (k : ℕ) → value_fault l limit b row k → k ≤ length b
@@ -151,7 +151,7 @@ met b l i m e r h k = by h
 pub met_within : (b : List ℕ) (l : Bool) (i : ℕ) (e : Error) → i ≤ length b → (e ≡ no_memory) ⊎ ValueFaultFrom l 254 i b e.code e.place → PlaceIsWithin b e.place
 met_within b l i e w (inl q) = subst (λ (x : Error). PlaceIsWithin b x.place) (sym q) tt
 met_within b l i e w (inr (k, p, h)) =
-    let s = stands (λ row. value_fault l 254 (drop i b) row k) e.code h in
+    let s = is_there (λ row. value_fault l 254 (drop i b) row k) e.code h in
     let n = fault_within l 254 (drop i b) s.row k s.holds in
     subst (PlaceIsWithin b) (sym p) (place_within b (i + k) (omega (arith, length-drop i b)))
 
@@ -166,13 +166,13 @@ value_fails f s c p u h = (u, h, refl)
 
 -- that is reported
 pub gave_up : (f : Tree → Reading) (b : List ℕ) (l : Bool) (o : Option RepairedText) (i : ℕ) (e : Error) → IsUtf8 b → (e ≡ no_memory) ⊎ ValueFaultFrom l 254 i b e.code e.place
-    → NextValueFails f (stands_at b l o i) e.code (in_input o e.place) (stands_at b l o i)
-gave_up f b l o i e u (inl q) = subst (λ (x : Error). NextValueFails f (stands_at b l o i) x.code (in_input o x.place) (stands_at b l o i)) (sym q) (by o)
+    → NextValueFails f (input_state b l o i) e.code (in_input o e.place) (input_state b l o i)
+gave_up f b l o i e u (inl q) = subst (λ (x : Error). NextValueFails f (input_state b l o i) x.code (in_input o x.place) (input_state b l o i)) (sym q) (by o)
   where
-    by : (o : Option RepairedText) → NextValueFails f (stands_at b l o i) code.NoMemory (in_input o place.None) (stands_at b l o i)
+    by : (o : Option RepairedText) → NextValueFails f (input_state b l o i) code.NoMemory (in_input o place.None) (input_state b l o i)
     by None = refl
     by (Some r) = refl
-gave_up f b l o i e u (inr (k, p, h)) = value_fails f (stands_at b l o i) e.code (in_input o e.place) u (k, ap (in_input o) p, h)
+gave_up f b l o i e u (inr (k, p, h)) = value_fails f (input_state b l o i) e.code (in_input o e.place) u (k, ap (in_input o) p, h)
 
 -- the tree was refused
 pub tree_fails : (f : Tree → Reading) (old : InputState) (c : ErrorCode) (p : Place) (new : InputState) → is_refusal c ≡ true → RefusesNextValue f old c p new → NextValueFails f old c p new
@@ -197,10 +197,10 @@ closing_is_ascii array = omega arith
 closing_is_ascii object = omega arith
 
 pub trails_within : (s : ParserState) (b : List ℕ) (e : Error) → s.text ≡ b → TrailsAt s e → PlaceIsWithin b e.place
-trails_within s b e t h = let n = h.some in subst (λ (y : List ℕ). PlaceIsWithin y e.place) t (subst (λ (x : Error). PlaceIsWithin s.text x.place) (sym h.told) (place_within s.text h.at (omega arith)))
+trails_within s b e t h = let n = h.some in subst (λ (y : List ℕ). PlaceIsWithin y e.place) t (subst (λ (x : Error). PlaceIsWithin s.text x.place) (sym h.reported) (place_within s.text h.at (omega arith)))
 
 pub lacks_within : (k : Kind) (s : ParserState) (b : List ℕ) (e : Error) → s.text ≡ b → LacksEnd s k e → PlaceIsWithin b e.place
-lacks_within k s b e t h = subst (λ (y : List ℕ). PlaceIsWithin y e.place) t (subst (λ (x : Error). PlaceIsWithin s.text x.place) (sym h.told) (place_within s.text h.at h.next.within))
+lacks_within k s b e t h = subst (λ (y : List ℕ). PlaceIsWithin y e.place) t (subst (λ (x : Error). PlaceIsWithin s.text x.place) (sym h.reported) (place_within s.text h.at h.next.within))
 
 -- after a closing bracket a character begins
 pub past_end : (k : Kind) (b t : List ℕ) (i j : ℕ) (p q : ParserState) → p.text ≡ t → IsTextAt b i t → ReadsEnd p k q → j ≡ q.index → IsTextAt b j t
@@ -212,7 +212,7 @@ past_end k b t i j p q e h n o =
     record {
       same = h.same;
       utf8 = h.utf8;
-      boundary = subst (IsCharBoundary b) (sym (o ∙ n.behind.index)) (IsCharBoundary-after_ascii b n.at h.utf8 byte.0 low);
+      boundary = subst (IsCharBoundary b) (sym (o ∙ n.after.index)) (IsCharBoundary-after_ascii b n.at h.utf8 byte.0 low);
     }
 
 -- ---- the input

@@ -3,7 +3,7 @@ use Rattle.std.specs.Prelude.{◌≡◌, ℕ, ◌≤◌, Bool, List, length, Som
 use Rattle.std.specs.Str.Lossy.{utf8_lossy}
 use Rattle.json_io.specs.Positions.{place_at}
 use Rattle.json_text.specs.Repaired.{RepairedText, origin_at, origin_of}
-use Rattle.json_stream.specs.Streams.{stands_at, told_at}
+use Rattle.json_stream.specs.Streams.{input_state, reported_place}
 
 -- r is what `repair` makes of the bytes
 pub record IsRepairOf (b : List ℕ) (r : RepairedText) : Type 0 where
@@ -11,16 +11,16 @@ pub record IsRepairOf (b : List ℕ) (r : RepairedText) : Type 0 where
   pub origin : (k : ℕ) → k ≤ length r.text → origin_of r k ≡ origin_at b k
 
 -- what is reported of a place of the repaired text is its origin in the input
-abbrev pub ToldByInput : Type 0
-ToldByInput =
+abbrev pub ReportedInInput : Type 0
+ReportedInInput =
     (b : List ℕ) (r : RepairedText) (lossy : Bool) (i k : ℕ)
     → IsRepairOf b r
     → k ≤ length r.text
-    → told_at (stands_at r.text lossy (Some r) i) k ≡ place_at b (origin_at b k)
+    → reported_place (input_state r.text lossy (Some r) i) k ≡ place_at b (origin_at b k)
 
 -- and of its end, the end of the input
-abbrev pub EndToldByInput : Type 0
-EndToldByInput =
+abbrev pub EndReportedInInput : Type 0
+EndReportedInInput =
     (b : List ℕ) (r : RepairedText) (lossy : Bool) (i : ℕ)
     → IsRepairOf b r
-    → told_at (stands_at r.text lossy (Some r) i) (length r.text) ≡ place_at b (length b)
+    → reported_place (input_state r.text lossy (Some r) i) (length r.text) ≡ place_at b (length b)

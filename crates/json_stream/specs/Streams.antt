@@ -2,7 +2,7 @@
 use Rattle.std.specs.Prelude.{◌≡◌, ◌⊎◌, ℕ, ◌+◌, ◌-◌, ◌<◌, ◌≤◌, List, [], ◌∷◌, ◌++◌, length, drop, Bool, Option, Some, None, IsUtf8}
 use Rattle.std.specs.Str.{IsCharBoundary}
 use Rattle.json_grammar.specs.declared.Kind.{Kind}
-use Rattle.json_grammar.specs.declared.Spot.TheVariants.{Value as at_value}
+use Rattle.json_grammar.specs.declared.ExpectedPart.TheVariants.{Value as at_value}
 use Rattle.json_grammar.specs.Fault.{reads}
 use Rattle.json_grammar.specs.Place.{closing}
 use Rattle.json_grammar.specs.Tree.{Tree, depth}
@@ -30,12 +30,12 @@ pub record InputState : Type 0 where
   pub repaired : Option RepairedText
 
 -- of these parts
-abbrev pub stands_at : List ℕ → Bool → Option RepairedText → ℕ → InputState
-stands_at b l o i = record { text = b; index = i; lossy = l; repaired = o }
+abbrev pub input_state : List ℕ → Bool → Option RepairedText → ℕ → InputState
+input_state b l o i = record { text = b; index = i; lossy = l; repaired = o }
 
 -- a parser that begins there
-abbrev pub standing : InputState → ParserState
-standing s = record { text = s.text; start = s.index; lossy = s.lossy; limit = 254; index = s.index; open_kinds = []; spot = at_value; failure = None }
+abbrev pub parser_at : InputState → ParserState
+parser_at s = record { text = s.text; start = s.index; lossy = s.lossy; limit = 254; index = s.index; open_kinds = []; expected = at_value; failure = None }
 
 -- ---- places of the input
 
@@ -60,8 +60,8 @@ offset_in None k = k
 offset_in (Some r) k = origin_of r k
 
 -- the place in the input for an offset of the text that is read
-abbrev pub told_at : InputState → ℕ → Place
-told_at s k = in_input s.repaired (place_at s.text k)
+abbrev pub reported_place : InputState → ℕ → Place
+reported_place s k = in_input s.repaired (place_at s.text k)
 
 -- this holds of an error of the text that is read, and the error has its place in the input
 abbrev pub Tells : Option RepairedText → (Error → Type 0) → Error → Type 0
@@ -83,7 +83,7 @@ pub record TakesNextValue (f : Tree → Reading) (old : InputState) (r : Reading
   pub value : reads old.lossy (drop old.index old.text) tree size
   pub levels : depth tree ≤ 254
   pub answer : f tree ≡ r
-  pub behind : new ≡ record old { index = old.index + size }
+  pub after : new ≡ record old { index = old.index + size }
   pub forward : old.index < new.index
   pub within : new.index ≤ length new.text
 
@@ -91,12 +91,12 @@ pub record TakesNextValue (f : Tree → Reading) (old : InputState) (r : Reading
 pub record RefusesNextValue (f : Tree → Reading) (old : InputState) (c : ErrorCode) (p : Place) (new : InputState) : Type 0 where
   pub takes : TakesNextValue f old (refuses c) new
   pub begins : ℕ
-  pub next : ComesNext (standing old) begins
-  pub place : p ≡ told_at old begins
+  pub next : ComesNext (parser_at old) begins
+  pub place : p ≡ reported_place old begins
 
 -- what is left has this fault as a value
 abbrev pub FaultIsLeft : InputState → ErrorCode → Place → Type 0
-FaultIsLeft s c p = (k : ℕ) × (p ≡ told_at s (s.index + k)) × IsValueFault s.lossy 254 (drop s.index s.text) c k
+FaultIsLeft s c p = (k : ℕ) × (p ≡ reported_place s (s.index + k)) × IsValueFault s.lossy 254 (drop s.index s.text) c k
 
 -- why no value is returned, and the state then: memory ran out, the whole input is no UTF-8, what
 -- is left has a fault as a value, or the tree of the value is refused
@@ -111,7 +111,7 @@ NextValueFails f old c p new = IsUtf8 old.text × FaultIsLeft old c p × (new �
 -- the error is that the text ended before a value; or memory ran out
 abbrev pub TellsEnd : InputState → ErrorCode → Place → Type 0
 TellsEnd s code.NoMemory place.None = Unit {0}
-TellsEnd s code.EofWhileParsing p = p ≡ told_at s (length s.text)
+TellsEnd s code.EofWhileParsing p = p ≡ reported_place s (length s.text)
 TellsEnd s c p = ⊥
 
 -- ---- ends
@@ -120,9 +120,9 @@ TellsEnd s c p = ⊥
 pub record PassesEnd (old : InputState) (k : Kind) (new : InputState) : Type 0 where
   pub utf8 : IsUtf8 old.text
   pub at : ℕ
-  pub next : ComesNext (standing old) at
+  pub next : ComesNext (parser_at old) at
   pub closes : ByteAt old.text at (closing k)
-  pub behind : new ≡ record old { index = at + 1 }
+  pub after : new ≡ record old { index = at + 1 }
 
 -- why an end is refused: the whole input is no UTF-8, or this
 abbrev pub EndFails : InputState → (Error → Type 0) → Error → Type 0

@@ -4,13 +4,14 @@ ghost use Rattle.json_grammar.specs.declared.Kind.TheVariants as Kind;
 ghost use Rattle.json_data.specs.Reading.{gives};
 ghost use Rattle.json_tokens.specs.TextValues.{IsPackedAtRoot};
 ghost use Rattle.json_text.specs.Ends.{NothingLeft, TrailsAt, LacksEnd};
-ghost use Rattle.json_stream.specs.Streams.{InputState, standing, stands_at, offset_in, TakesNextValue, NextValueFails, PassesEnd, EndFails};
+ghost use Rattle.json_stream.specs.Streams.{InputState, parser_at, input_state, offset_in, TakesNextValue, NextValueFails, PassesEnd, EndFails};
 
 use crate::input_place::at_input_place;
-use crate::read_value::read_value;
+use crate::read_value::read_next_value;
 use crate::stream_deserializer::StreamDeserializer;
 use json_data::Deserialize;
-use json_text::{Parser, Repaired, Result, check_utf8};
+use json_io::{Result, check_utf8};
+use json_text::{Parser, Repaired};
 use std::alloc::Global;
 use std::marker::Model;
 
@@ -97,7 +98,7 @@ impl<'a> Deserializer<'a> {
     // Creates a reader at the beginning of the text, which may have been repaired.
     fn of_text(text: &'a str, lossy: bool, repaired: Option<&'a Repaired>) -> Deserializer<'a>
         requires { IfSome repaired (λ r. r.now.text ≡ text.now) }
-        ensures { result ≡ stands_at text.now lossy (option_copied repaired.entry) 0 }
+        ensures { result ≡ input_state text.now lossy (option_copied repaired.entry) 0 }
     {
         Deserializer {
             bytes: text.as_bytes(),
@@ -154,7 +155,7 @@ impl<'a> Deserializer<'a> {
             NextValueFails T.from_tree self.old e.code e.place self.new) }
     {
         match self.text {
-            Ok(text) => read_value(alloc, text, self.lossy, self.repaired, &mut self.at),
+            Ok(text) => read_next_value(alloc, text, self.lossy, self.repaired, &mut self.at),
             Err(error) => Err(error),
         }
     }
@@ -164,8 +165,8 @@ impl<'a> Deserializer<'a> {
     /// move.
     pub fn end(&mut self) -> Result<()>
         ensures utf8 { OnOk result (IsUtf8 self.old.text) }
-        ensures ok { OnOk result (NothingLeft (standing self.old)) }
-        ensures err { IfErr result (EndFails self.old (TrailsAt (standing self.old))) }
+        ensures ok { OnOk result (NothingLeft (parser_at self.old)) }
+        ensures err { IfErr result (EndFails self.old (TrailsAt (parser_at self.old))) }
         ensures kept { self.new ≡ self.old }
     {
         match self.text {
@@ -185,7 +186,7 @@ impl<'a> Deserializer<'a> {
     /// whitespace; then it does not move.
     pub fn end_seq(&mut self) -> Result<()>
         ensures ok { OnOk result (PassesEnd self.old Kind.Array self.new) }
-        ensures err { IfErr result (EndFails self.old (LacksEnd (standing self.old) Kind.Array)) }
+        ensures err { IfErr result (EndFails self.old (LacksEnd (parser_at self.old) Kind.Array)) }
         ensures kept { OnErr result (self.new ≡ self.old) }
     {
         match self.text {
@@ -212,7 +213,7 @@ impl<'a> Deserializer<'a> {
     /// move.
     pub fn end_map(&mut self) -> Result<()>
         ensures ok { OnOk result (PassesEnd self.old Kind.Object self.new) }
-        ensures err { IfErr result (EndFails self.old (LacksEnd (standing self.old) Kind.Object)) }
+        ensures err { IfErr result (EndFails self.old (LacksEnd (parser_at self.old) Kind.Object)) }
         ensures kept { OnErr result (self.new ≡ self.old) }
     {
         match self.text {

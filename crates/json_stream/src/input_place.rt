@@ -2,7 +2,8 @@
 ghost use Rattle.std.specs.Prelude.{◌≡◌, ◌-◌, ◌≤◌, length, IfSome, option_copied};
 ghost use Rattle.json_stream.specs.Streams.{added as spec_added, origin_place, in_input, PlaceIsWithin};
 
-use json_text::{Error, Place, Repaired};
+use json_io::{Error, Place};
+use json_text::Repaired;
 
 // How many bytes more the repaired text has before the offset than the input.
 fn added(repaired: &Repaired, offset: usize) -> usize
@@ -14,7 +15,7 @@ fn added(repaired: &Repaired, offset: usize) -> usize
 
 // The place in the input for one in its repaired text.
 #[cold]
-fn origin_of(repaired: &Repaired, place: Place) -> Place
+fn place_in_input(repaired: &Repaired, place: Place) -> Place
     requires { PlaceIsWithin repaired.now.text place }
     ensures { result ≡ origin_place repaired.now place }
 {
@@ -46,7 +47,7 @@ pub(crate) fn at_input_place(repaired: Option<&Repaired>, error: Error) -> Error
 {
     match repaired {
         Some(repaired) => Error {
-            place: origin_of(repaired, error.place),
+            place: place_in_input(repaired, error.place),
             ..error
         },
         None => error,

@@ -4,11 +4,14 @@ ghost use Rattle.std.specs.Str.{IsCharBoundary};
 ghost use Rattle.json_data.specs.Reading.{gives};
 ghost use Rattle.json_tokens.specs.Text.{IsFreshReader};
 ghost use Rattle.json_tokens.specs.TextValues.{IsPackedAtRoot};
-ghost use Rattle.json_stream.specs.Streams.{stands_at, TakesNextValue, NextValueFails};
+ghost use Rattle.json_stream.specs.Streams.{input_state, TakesNextValue, NextValueFails};
 
 use crate::input_place::at_input_place;
-use json_data::{Deserialize, TextTokens, is_refusal};
-use json_text::{Error, Repaired, Result, place_of, ws_run};
+use json_data::Deserialize;
+use json_io::{Error, Result, place_of};
+use json_scan::ws_run;
+use json_text::Repaired;
+use json_tokens::{TextTokens, is_refusal};
 use std::alloc::Global;
 
 // Returns the tokens of the next value in the text, in either mode.
@@ -26,7 +29,7 @@ fn tokens_at<'a>(text: &'a str, lossy: bool, from: usize) -> TextTokens<'a>
 /// Reads the next value in the text from `at` on, in either mode. `at` becomes the offset after it
 /// if it was taken. A text that was repaired is read so too, and its errors have places of the
 /// input.
-pub(crate) fn read_value<'a, T: Deserialize<'a>>(
+pub(crate) fn read_next_value<'a, T: Deserialize<'a>>(
     alloc: Global,
     text: &'a str,
     lossy: bool,
@@ -36,13 +39,13 @@ pub(crate) fn read_value<'a, T: Deserialize<'a>>(
     requires boundary { IsCharBoundary text.now at.old }
     requires same { IfSome repaired (λ r. r.now.text ≡ text.now) }
     ensures ok { IfOk result (λ v. TakesNextValue T.from_tree
-        (stands_at text.now lossy (option_copied repaired.entry) at.old)
+        (input_state text.now lossy (option_copied repaired.entry) at.old)
         (gives (T.datum v))
-        (stands_at text.now lossy (option_copied repaired.entry) at.new)) }
+        (input_state text.now lossy (option_copied repaired.entry) at.new)) }
     ensures place { IfOk result (T.placed IsPackedAtRoot) }
     ensures err { IfErr result (λ e. NextValueFails T.from_tree
-        (stands_at text.now lossy (option_copied repaired.entry) at.old) e.code e.place
-        (stands_at text.now lossy (option_copied repaired.entry) at.new)) }
+        (input_state text.now lossy (option_copied repaired.entry) at.old) e.code e.place
+        (input_state text.now lossy (option_copied repaired.entry) at.new)) }
     ensures boundary { IsCharBoundary text.now at.new }
 {
     let from = *at;

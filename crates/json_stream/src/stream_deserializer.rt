@@ -3,11 +3,11 @@ ghost use Rattle.std.specs.Prelude.{◌≡◌, true, false, IfSome, IfOk, IfErr,
 ghost use Rattle.json_text.specs.Ends.{NothingLeft};
 ghost use Rattle.json_data.specs.Reading.{gives};
 ghost use Rattle.json_tokens.specs.TextValues.{IsPackedAtRoot};
-ghost use Rattle.json_stream.specs.Streams.{standing, TakesNextValue, NextValueFails, TellsEnd};
+ghost use Rattle.json_stream.specs.Streams.{parser_at, TakesNextValue, NextValueFails, TellsEnd};
 
 use crate::deserializer::Deserializer;
 use json_data::Deserialize;
-use json_text::Result;
+use json_io::Result;
 use std::alloc::Global;
 use std::marker::{Model, PhantomData};
 
@@ -61,7 +61,7 @@ impl<'a, T: Deserialize<'a>> StreamDeserializer<'a, T> {
         ensures err { IfSome result (λ r. IfErr r (λ e.
             NextValueFails T.from_tree self.old.input e.code e.place self.new.input
             × (self.new.ended ≡ true))) }
-        ensures clean { IsUtf8 self.old.input.text → NothingLeft (standing self.old.input)
+        ensures clean { IsUtf8 self.old.input.text → NothingLeft (parser_at self.old.input)
             → IfSome result (λ r. IsErrAnd r (λ e. TellsEnd self.old.input e.code e.place)) }
     {
         if self.ended {

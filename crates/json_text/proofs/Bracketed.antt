@@ -2,14 +2,14 @@
 use Rattle.std.proofs.Common.{◌≡◌, ◌≢◌, ℕ, ◌+◌, ◌<◌, List, ◌∷◌, length, drop, Bool, Some, sym, subst}
 use Rattle.json_grammar.specs.declared.Kind.{Kind}
 use Rattle.json_grammar.specs.declared.Kind.TheVariants.{Array as array, Object as object}
-use Rattle.json_grammar.specs.declared.Spot.{Spot}
-use Rattle.json_grammar.specs.declared.Spot.TheVariants.{Done as done}
+use Rattle.json_grammar.specs.declared.ExpectedPart.{ExpectedPart}
+use Rattle.json_grammar.specs.declared.ExpectedPart.TheVariants.{Done as done}
 use Rattle.json_grammar.specs.Place.{TakesValue, TakesEnd, bracket, closing, opened}
 use Rattle.json_grammar.specs.Tree.{Token, begin, end}
 use Rattle.json_text.specs.declared.event.Event.TheVariants as event
 use Rattle.json_scan.specs.Runs.{ByteAt}
 use Rattle.json_text.specs.Stack.{top}
-use Rattle.json_text.specs.Standing.{Stood}
+use Rattle.json_text.specs.Readers.{ReaderAt}
 use Rattle.json_text.specs.Steps.{Advances}
 use Rattle.json_text.specs.Tokens.{begin_event, end_event}
 use Rattle.json_text.proofs.Going.{advances}
@@ -24,10 +24,10 @@ end_is_event array e = cc
 end_is_event object e = cc
 
 -- from i, where the bracket is at j, after whitespace and a comma or a colon
-module _ (lossy : Bool) (limit : ℕ) (k : Kind) (b t : List ℕ) (i j : ℕ) (c : List Kind) (w v : Spot) (same : b ≡ t) (given : (ts : List Token) × Stood lossy limit t i c w ts)
-    (ready : (ts : List Token) → Stood lossy limit b i c w ts → Stood lossy limit b j c v ts) (c' : List Kind) (w' : Spot) where
-  at_bracket : (ts : List Token) → Stood lossy limit t i c w ts → Stood lossy limit t j c v ts
-  at_bracket ts s = subst (λ y. Stood lossy limit y j c v ts) same (ready ts (subst (λ y. Stood lossy limit y i c w ts) (sym same) s))
+module _ (lossy : Bool) (limit : ℕ) (k : Kind) (b t : List ℕ) (i j : ℕ) (c : List Kind) (w v : ExpectedPart) (same : b ≡ t) (given : (ts : List Token) × ReaderAt lossy limit t i c w ts)
+    (ready : (ts : List Token) → ReaderAt lossy limit b i c w ts → ReaderAt lossy limit b j c v ts) (c' : List Kind) (w' : ExpectedPart) where
+  at_bracket : (ts : List Token) → ReaderAt lossy limit t i c w ts → ReaderAt lossy limit t j c v ts
+  at_bracket ts s = subst (λ y. ReaderAt lossy limit y j c v ts) same (ready ts (subst (λ y. ReaderAt lossy limit y i c w ts) (sym same) s))
 
   pub begins : c' ≡ k ∷ c → w' ≡ opened k → TakesValue v → ByteAt t j (bracket k) → length c < limit → Advances lossy limit t i c w (begin_event k) (j + 1) c' w'
   begins e f t h l = rw (e, f) (advances lossy limit _ i c w (begin_event k) (j + 1) (k ∷ c) (opened k) given (λ ts s. (begin k, begin_means k, stood_open lossy limit k _ j c v ts (at_bracket ts s) t h l)))

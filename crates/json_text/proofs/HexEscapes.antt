@@ -6,7 +6,7 @@ use Rattle.json_grammar.specs.Given.{piece}
 use Rattle.json_grammar.proofs.Moves.{piece_none}
 use Rattle.json_text.specs.declared.escape.Escape.{Escape}
 use Rattle.json_text.specs.declared.escape.Escape.TheVariants.{Backslash as backslash, U as letter_u, One as one, D as letter_d, Two as two, Three as three, HighTwo as high_two, HighThree as high_three, High as high, LowBackslash as low_backslash, LowU as low_u, LowD as low_d, LowTwo as low_two, LowThree as low_three, Done as finished}
-use Rattle.json_text.specs.Escapes.{escape_step, escape_run, first_step, one_len, EscapeTo, HexBehind, HighAt, LowAt}
+use Rattle.json_text.specs.Escapes.{escape_step, escape_run, first_step, one_len, EscapeTo, HexAfter, HighAt, LowAt}
 use Rattle.json_text.proofs.Escaping.{escape_on, Hex}
 
 -- the escape was read from i up to j
@@ -53,13 +53,13 @@ no_d_first : (a b c d u : ℕ) → a * 4096 + b * 256 + c * 16 + d ≡ u → b <
 no_d_first a b c d u e k l m (inl h) = λ f. omega arith
 no_d_first a b c d u e k l m (inr h) = λ f. omega arith
 
-pub unit_to : (lossy : Bool) (b : List ℕ) (i u : ℕ) → i + 5 ≤ length b → get_or b i 0 ≡ 117 → HexBehind b i u → (u < 53248) ⊎ (57344 ≤ u) → EscapeTo lossy b i (i + 5)
+pub unit_to : (lossy : Bool) (b : List ℕ) (i u : ℕ) → i + 5 ≤ length b → get_or b i 0 ≡ 117 → HexAfter b i u → (u < 53248) ⊎ (57344 ≤ u) → EscapeTo lossy b i (i + 5)
 unit_to lossy b i u room letter h n =
     let at : UnitAt b i = record { room = room; letter = letter; first = h.first; no_d = no_d_first _ _ _ _ u h.value h.second h.third h.fourth n; second = h.second; third = h.third; fourth = h.fourth } in
     record { order = omega arith; within = room; leads = unit_leads lossy b i at }
 
 -- an escape that one test recognizes
-pub usual_to : (lossy : Bool) (b : List ℕ) (i u m : ℕ) → i + 5 ≤ length b → (u < 65536 → HexBehind b i u) → (get_or b i 0 ≡ 117 → m ≡ 53248) → (get_or b i 0 ≢ 117 → 0 < m → first_step (get_or b i 0) ≡ Some finished) → u < m
+pub usual_to : (lossy : Bool) (b : List ℕ) (i u m : ℕ) → i + 5 ≤ length b → (u < 65536 → HexAfter b i u) → (get_or b i 0 ≡ 117 → m ≡ 53248) → (get_or b i 0 ≢ 117 → 0 < m → first_step (get_or b i 0) ≡ Some finished) → u < m
     → EscapeTo lossy b i (i + one_len (get_or b i 0))
 usual_to lossy b i u m room h long short l = elim (cases_eq (get_or b i 0) 117) [ inl e ↦ rw (eq-eqb (get_or b i 0) 117 e) (letter e) | inr n ↦ rw (ne_eqb (get_or b i 0) 117 n) (other n) ]
   where
@@ -72,7 +72,7 @@ usual_to lossy b i u m room h long short l = elim (cases_eq (get_or b i 0) 117) 
 high_digits : (a b c d u : ℕ) → a * 4096 + b * 256 + c * 16 + d ≡ u → a < 16 → b < 16 → c < 16 → d < 16 → 55296 ≤ u → u < 56320 → (a ≡ 13) × (8 ≤ b) × (b < 12)
 high_digits a b c d u e k l m n f g = (omega arith, omega arith, omega arith)
 
-pub high_at : (b : List ℕ) (i u : ℕ) → get_or b i 0 ≡ 117 → HexBehind b i u → 55296 ≤ u → u < 56320 → HighAt b i
+pub high_at : (b : List ℕ) (i u : ℕ) → get_or b i 0 ≡ 117 → HexAfter b i u → 55296 ≤ u → u < 56320 → HighAt b i
 high_at b i u letter h l m =
     let d = high_digits _ _ _ _ u h.value h.first h.second h.third h.fourth l m in
     record { letter = letter; d = d.0; from_eight = d.1; to_eleven = d.2; third = h.third; fourth = h.fourth }

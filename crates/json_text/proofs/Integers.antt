@@ -15,7 +15,7 @@ use Rattle.json_grammar.specs.NumberStates.{at_start}
 use Rattle.json_text.specs.Numbers.{NumberTo, IntegerTo, NoDigit, BeginsNumber}
 use Rattle.json_scan.specs.Runs.{ByteAt}
 use Rattle.json_io.proofs.Pieces.{piece_cons}
-use Rattle.json_text.proofs.Scans.{stands_begin, integer_digits, integer_alone, fraction_none, exponent_none}
+use Rattle.json_text.proofs.Scans.{is_there_begin, integer_digits, integer_alone, fraction_none, exponent_none}
 
 pub ascii_digit : (x : ℕ) → is_ascii_digit x ≡ true → IsDigit x
 ascii_digit x h = grind (arith, nat_tests)
@@ -73,14 +73,14 @@ counted_digits b i (suc n) count h l d =
 -- ---- the number
 
 no_zero : (b : List ℕ) (i e : ℕ) → i < e → e ≤ length b → digits (piece b i e) → NoDigit b e → get_or b i 0 ≢ 48 → IntegerTo b i e
-no_zero b i e l w d n z = integer_digits b i i e at_start (stands_begin b i (omega arith)) (inl refl) (record { order = l; within = w; run = d; stop = n }) (λ k. z k.1)
+no_zero b i e l w d n z = integer_digits b i i e at_start (is_there_begin b i (omega arith)) (inl refl) (record { order = l; within = w; run = d; stop = n }) (λ k. z k.1)
 
 zero_or_more : (b : List ℕ) (i e : ℕ) → i < e → e ≤ length b → digits (piece b i e) → NoDigit b e → (get_or b i 0 ≢ 48) ⊎ (e ≤ i + 1) → IntegerTo b i e
 zero_or_more b i e l w d n (inl z) = no_zero b i e l w d n z
 zero_or_more b i e l w d n (inr m) = elim (cases_eq (get_or b i 0) 48) [
   | inl z ↦
       let s : e ≡ i + 1 = omega arith in
-      subst (IntegerTo b i) (sym s) (integer_alone b i i at_start (stands_begin b i (omega arith)) (inl refl) (omega arith, z) (subst (NoDigit b) s n))
+      subst (IntegerTo b i) (sym s) (integer_alone b i i at_start (is_there_begin b i (omega arith)) (inl refl) (omega arith, z) (subst (NoDigit b) s n))
   | inr z ↦ no_zero b i e l w d n z
 ]
 

@@ -1,12 +1,12 @@
 -- Where nothing was read, the modes are alike.
 use Rattle.std.proofs.Common.{◌≡◌, ℕ, List, [], ◌∷◌, ◌++◌, take, Bool, refl, sym, subst}
 use Rattle.json_grammar.specs.declared.Kind.{Kind}
-use Rattle.json_grammar.specs.declared.Spot.{Spot}
-use Rattle.json_grammar.specs.declared.Spot.TheVariants.{Value as at_value}
+use Rattle.json_grammar.specs.declared.ExpectedPart.{ExpectedPart}
+use Rattle.json_grammar.specs.declared.ExpectedPart.TheVariants.{Value as at_value}
 use Rattle.json_grammar.specs.Tree.{Tree, null, boolean, num, text, list, pairs, Token, tokens}
 use Rattle.json_grammar.specs.Grammar.{ws}
 use Rattle.json_grammar.specs.Place.{reading, start, open_one, read_value, read_comma, read_key, read_colon}
-use Rattle.json_text.specs.Standing.{Stood}
+use Rattle.json_text.specs.Readers.{ReaderAt}
 
 some_tokens : (t : Tree) → tokens t ≡ [] → ⊥
 some_tokens null e = cc
@@ -25,7 +25,7 @@ one_more [] x e = cc
 one_more (y ∷ ts) x e = cc
 
 -- whitespace alone precedes the first token
-before_first : {lossy : Bool} {p : List ℕ} {c : List Kind} {w : Spot} {ts : List Token} → reading lossy p c w ts → ts ≡ [] → ws p × (c ≡ []) × (w ≡ at_value)
+before_first : {lossy : Bool} {p : List ℕ} {c : List Kind} {w : ExpectedPart} {ts : List Token} → reading lossy p c w ts → ts ≡ [] → ws p × (c ≡ []) × (w ≡ at_value)
 before_first (start h) e = (h, refl, refl)
 before_first (open_one {ts = ts} k h t q) e = absurd (one_more ts _ e)
 before_first (read_value {ts = ts} t h n q) e = absurd (some_tokens t (last_none ts (tokens t) e))
@@ -33,7 +33,7 @@ before_first (read_comma k h q) e = let r = before_first h e in absurd (cc (r.1)
 before_first (read_key {ts = ts} s h n q) e = absurd (one_more ts _ e)
 before_first (read_colon h q) e = let r = before_first h e in absurd (cc (r.2))
 
-pub fresh_in : (lossy mode : Bool) (limit : ℕ) (b : List ℕ) (i : ℕ) (c : List Kind) (w : Spot) → Stood lossy limit b i c w [] → Stood mode limit b i c w []
+pub fresh_in : (lossy mode : Bool) (limit : ℕ) (b : List ℕ) (i : ℕ) (c : List Kind) (w : ExpectedPart) → ReaderAt lossy limit b i c w [] → ReaderAt mode limit b i c w []
 fresh_in lossy mode limit b i c w s =
     let r = before_first s.given.at refl in
     let here : reading mode (take s.base b) [] at_value [] = start r.0 in

@@ -25,7 +25,7 @@ use Rattle.json_text.proofs.TokenFaults.{zero_after, begun, zero_read, ended_who
 -- ---- gaps
 
 pub gap_space : (g : List ℕ) → ws g → IsGap g
-gap_space g h = record { before = g; mark = []; behind = []; row = sym (append-nil g); space_before = h; is_mark = inl refl; space_behind = tt }
+gap_space g h = record { before = g; mark = []; after = []; row = sym (append-nil g); space_before = h; is_mark = inl refl; space_behind = tt }
 
 -- whitespace from i up to j, one byte there, and whitespace after it up to k
 gap_mark : (b : List ℕ) (i j k x : ℕ) → i ≤ j → j + 1 ≤ k → ws (piece b i j) → ByteAt b j x → ws (piece b (j + 1) k) → (x ≡ 44) ⊎ (x ≡ 58) → IsGap (piece b i k)
@@ -33,7 +33,7 @@ gap_mark b i j k x h l s q r m =
     record {
       before = piece b i j;
       mark = x ∷ [];
-      behind = piece b (j + 1) k;
+      after = piece b (j + 1) k;
       row = piece_append b i j k h (omega arith) ∙ ap (λ y. piece b i j ++ y) (piece_append b j (j + 1) k (omega arith) l ∙ ap (λ y. y ++ piece b (j + 1) k) (piece_single b j x q.0 q.1));
       space_before = s;
       is_mark = by m;
@@ -56,8 +56,8 @@ gap_colon b i j k h l s q r = gap_mark b i j k 58 h l s q r (inr refl)
 pub needs_first : (lossy : Bool) (b : List ℕ) (k : ℕ) (c : ErrorCode) → TokenNeeds lossy b k c k
 needs_first lossy b k c = record { order = omega arith; begun = inl (piece_none b k) }
 
-pub needs_behind : (lossy : Bool) (b : List ℕ) (i j k : ℕ) (c : ErrorCode) → i ≤ j → IsGap (piece b i j) → TokenNeeds lossy b j c k → NextNeeds lossy b i c k
-needs_behind lossy b i j k c h g t = record { at = j; order = (h, t.order); gap = g; begun = t.begun }
+pub needs_after : (lossy : Bool) (b : List ℕ) (i j k : ℕ) (c : ErrorCode) → i ≤ j → IsGap (piece b i j) → TokenNeeds lossy b j c k → NextNeeds lossy b i c k
+needs_after lossy b i j k c h g t = record { at = j; order = (h, t.order); gap = g; begun = t.begun }
 
 pub needs_word : (lossy : Bool) (word b : List ℕ) (at k : ℕ) (c : ErrorCode) → is_word word → WordStops b at word c k → TokenNeeds lossy b at c k
 needs_word lossy word b at k c i s = record { order = let p = s.place in omega arith; begun = by s.count refl }

@@ -3,8 +3,8 @@ use Rattle.std.proofs.Common.{◌≡◌, ◌≢◌, ◌∙◌, inl, inr, ℕ, �
 use Rattle.std.proofs.lemmas.Bool.{cases_lt}
 use Rattle.json_grammar.specs.declared.Kind.{Kind}
 use Rattle.json_grammar.specs.declared.Kind.TheVariants.{Array as array, Object as object}
-use Rattle.json_grammar.specs.declared.Spot.{Spot}
-use Rattle.json_grammar.specs.declared.Spot.TheVariants.{Value as at_value, First as first, Key as key, KeyOrEnd as key_or_end, Colon as colon, Done as done}
+use Rattle.json_grammar.specs.declared.ExpectedPart.{ExpectedPart}
+use Rattle.json_grammar.specs.declared.ExpectedPart.TheVariants.{Value as at_value, First as first, Key as key, KeyOrEnd as key_or_end, Colon as colon, Done as done}
 use Rattle.json_grammar.specs.Grammar.{IsWhitespace, ws}
 use Rattle.json_grammar.specs.Given.{piece}
 use Rattle.json_grammar.specs.Place.{after_comma, closing, TakesEnd, end_first, end_key_or_end, end_done}
@@ -36,24 +36,24 @@ space_one b i j k s t =
 mark_one : (x : ℕ) (b : List ℕ) (i j k : ℕ) → MarkTo x b i j → MarkTo x b i k → j ≡ k
 mark_one x b i j k s t =
     let e : t.mark ≡ s.mark = space_one b i t.mark s.mark t.before s.before in
-    space_one b (s.mark + 1) j k s.behind (subst (λ m. SpaceTo b (m + 1) k) e t.behind)
+    space_one b (s.mark + 1) j k s.after (subst (λ m. SpaceTo b (m + 1) k) e t.after)
 
 -- the mark is not where whitespace ends
 mark_there : (x : ℕ) (b : List ℕ) (i j k : ℕ) → SpaceTo b i j → MarkTo x b i k → ByteAt b j x
-mark_there x b i j k s t = subst (λ m. ByteAt b m x) (space_one b i t.mark j t.before s) t.stands
+mark_there x b i j k s t = subst (λ m. ByteAt b m x) (space_one b i t.mark j t.before s) t.is_there
 
 -- no container ends where only a value or a name may follow
-no_end_at_value : {k : Kind} {w : Spot} → TakesEnd k w → w ≡ at_value → ⊥
+no_end_at_value : {k : Kind} {w : ExpectedPart} → TakesEnd k w → w ≡ at_value → ⊥
 no_end_at_value end_first e = cc
 no_end_at_value end_key_or_end e = cc
 no_end_at_value end_done e = cc
 
-no_end_at_key : {k : Kind} {w : Spot} → TakesEnd k w → w ≡ key → ⊥
+no_end_at_key : {k : Kind} {w : ExpectedPart} → TakesEnd k w → w ≡ key → ⊥
 no_end_at_key end_first e = cc
 no_end_at_key end_key_or_end e = cc
 no_end_at_key end_done e = cc
 
-no_end_at_colon : {k : Kind} {w : Spot} → TakesEnd k w → w ≡ colon → ⊥
+no_end_at_colon : {k : Kind} {w : ExpectedPart} → TakesEnd k w → w ≡ colon → ⊥
 no_end_at_colon end_first e = cc
 no_end_at_colon end_key_or_end e = cc
 no_end_at_colon end_done e = cc
@@ -63,44 +63,44 @@ no_comma_closes array e = omega (arith, e)
 no_comma_closes object e = omega (arith, e)
 
 -- where a container ends neither a colon nor a comma must follow
-pub ends_at_once : (b : List ℕ) (k : Kind) (at : ℕ) (w : Spot) → TakesEnd k w → ByteAt b at (closing k) → (w ≢ colon) × ¬ (ByteAt b at 44)
+pub ends_at_once : (b : List ℕ) (k : Kind) (at : ℕ) (w : ExpectedPart) → TakesEnd k w → ByteAt b at (closing k) → (w ≢ colon) × ¬ (ByteAt b at 44)
 ends_at_once b k at w t h = (λ e. no_end_at_colon t e, λ q. no_comma_closes k (sym h.1 ∙ q.1))
 
-pub no_end_behind_colon : (k : Kind) (w : Spot) → w ≡ at_value → ¬ (TakesEnd k w)
-no_end_behind_colon k w e t = no_end_at_value t e
+pub no_end_after_colon : (k : Kind) (w : ExpectedPart) → w ≡ at_value → ¬ (TakesEnd k w)
+no_end_after_colon k w e t = no_end_at_value t e
 
-pub no_end_behind_comma : (k x : Kind) (w : Spot) → w ≡ after_comma x → ¬ (TakesEnd k w)
-no_end_behind_comma k array w e t = no_end_at_value t e
-no_end_behind_comma k object w e t = no_end_at_key t e
+pub no_end_after_comma : (k x : Kind) (w : ExpectedPart) → w ≡ after_comma x → ¬ (TakesEnd k w)
+no_end_after_comma k array w e t = no_end_at_value t e
+no_end_after_comma k object w e t = no_end_at_key t e
 
-module _ (b : List ℕ) (i j k : ℕ) (c : List Kind) (w v : Spot) (s : SpaceTo b i j) where
+module _ (b : List ℕ) (i j k : ℕ) (c : List Kind) (w v : ExpectedPart) (s : SpaceTo b i j) where
   -- ---- after a name
 
   pub behind_colon : (at : ℕ) → w ≡ colon → ByteAt b j 58 → SpaceTo b (j + 1) at → NextAt b i c w k v → (at ≡ k) × (at_value ≡ v)
   behind_colon at e q t h =
       let n = subst (λ y. NextAt b i c y k v) e h in
-      (mark_one 58 b i at k (record { mark = j; before = s; stands = q; behind = t }) n.0, sym n.1)
+      (mark_one 58 b i at k (record { mark = j; before = s; is_there = q; after = t }) n.0, sym n.1)
 
   pub no_colon_there : w ≡ colon → ¬ (ByteAt b j 58) → ¬ (NextAt b i c w k v)
   no_colon_there e q h = let n = subst (λ y. NextAt b i c y k v) e h in q (mark_there 58 b i j k s n.0)
 
   -- ---- after a value
 
-  comma_next : (d : List Kind) (x : Kind) (v : Spot) → top d ≡ Some x → NextAt b i d done k v → MarkTo 44 b i k × (v ≡ after_comma x)
+  comma_next : (d : List Kind) (x : Kind) (v : ExpectedPart) → top d ≡ Some x → NextAt b i d done k v → MarkTo 44 b i k × (v ≡ after_comma x)
   comma_next [] x v e h = absurd h
   comma_next (y ∷ d) x v e h = let f : y ≡ x = cc in (h.0, h.1 ∙ ap after_comma f)
 
   pub behind_comma : (x : Kind) (at : ℕ) → w ≡ done → top c ≡ Some x → ByteAt b j 44 → SpaceTo b (j + 1) at → NextAt b i c w k v → (at ≡ k) × (after_comma x ≡ v)
   behind_comma x at e o q t h =
       let n = comma_next c x v o (subst (λ y. NextAt b i c y k v) e h) in
-      (mark_one 44 b i at k (record { mark = j; before = s; stands = q; behind = t }) n.0, sym n.1)
+      (mark_one 44 b i at k (record { mark = j; before = s; is_there = q; after = t }) n.0, sym n.1)
 
   pub no_comma_there : (x : Kind) → w ≡ done → top c ≡ Some x → ¬ (ByteAt b j 44) → ¬ (NextAt b i c w k v)
   no_comma_there x e o q h = let n = comma_next c x v o (subst (λ y. NextAt b i c y k v) e h) in q (mark_there 44 b i j k s n.0)
 
   -- ---- nothing is needed between
 
-  there : (y : Spot) → y ≢ colon → y ≢ done → NextAt b i c y k v → (j ≡ k) × (y ≡ v)
+  there : (y : ExpectedPart) → y ≢ colon → y ≢ done → NextAt b i c y k v → (j ≡ k) × (y ≡ v)
   there at_value n m h = (space_one b i j k s h.0, sym h.1)
   there first n m h = (space_one b i j k s h.0, sym h.1)
   there key n m h = (space_one b i j k s h.0, sym h.1)
@@ -111,18 +111,18 @@ module _ (b : List ℕ) (i j k : ℕ) (c : List Kind) (w v : Spot) (s : SpaceTo 
   pub right_there : w ≢ colon → w ≢ done → NextAt b i c w k v → (j ≡ k) × (w ≡ v)
   right_there n m h = there w n m h
 
-module _ (b : List ℕ) (i j : ℕ) (c : List Kind) (w : Spot) (s : SpaceTo b i j) where
+module _ (b : List ℕ) (i j : ℕ) (c : List Kind) (w : ExpectedPart) (s : SpaceTo b i j) where
   pub next_colon : (at : ℕ) → w ≡ colon → ByteAt b j 58 → SpaceTo b (j + 1) at → NextAt b i c w at at_value
-  next_colon at e q t = subst (λ y. NextAt b i c y at at_value) (sym e) (record { mark = j; before = s; stands = q; behind = t }, refl)
+  next_colon at e q t = subst (λ y. NextAt b i c y at at_value) (sym e) (record { mark = j; before = s; is_there = q; after = t }, refl)
 
   opened_comma : (d : List Kind) (x : Kind) (at : ℕ) → top d ≡ Some x → MarkTo 44 b i at → NextAt b i d done at (after_comma x)
   opened_comma [] x at o m = absurd (cc)
   opened_comma (y ∷ d) x at o m = let f : x ≡ y = cc in (m, ap after_comma f)
 
   pub next_comma : (x : Kind) (at : ℕ) → w ≡ done → top c ≡ Some x → ByteAt b j 44 → SpaceTo b (j + 1) at → NextAt b i c w at (after_comma x)
-  next_comma x at e o q t = subst (λ y. NextAt b i c y at (after_comma x)) (sym e) (opened_comma c x at o (record { mark = j; before = s; stands = q; behind = t }))
+  next_comma x at e o q t = subst (λ y. NextAt b i c y at (after_comma x)) (sym e) (opened_comma c x at o (record { mark = j; before = s; is_there = q; after = t }))
 
-  at_spot : (y : Spot) → y ≢ colon → y ≢ done → NextAt b i c y j y
+  at_spot : (y : ExpectedPart) → y ≢ colon → y ≢ done → NextAt b i c y j y
   at_spot at_value n m = (s, refl)
   at_spot first n m = (s, refl)
   at_spot key n m = (s, refl)
@@ -134,12 +134,12 @@ module _ (b : List ℕ) (i j : ℕ) (c : List Kind) (w : Spot) (s : SpaceTo b i 
   next_there n m = at_spot w n m
 
 -- in what is left of the text t from s on
-pub next_rest : (t b : List ℕ) (s i k : ℕ) (c : List Kind) (w v : Spot) → b ≡ drop s t → NextAt (drop s t) ((s + i) - s) c w k v → NextAt b i c w k v
+pub next_rest : (t b : List ℕ) (s i k : ℕ) (c : List Kind) (w v : ExpectedPart) → b ≡ drop s t → NextAt (drop s t) ((s + i) - s) c w k v → NextAt b i c w k v
 next_rest t b s i k c w v e h =
     let n : (s + i) - s ≡ i = omega arith in
     subst (λ y. NextAt y i c w k v) (sym e) (subst (λ m. NextAt (drop s t) m c w k v) n h)
 
-pub rest_next : (t b : List ℕ) (s i k : ℕ) (c : List Kind) (w v : Spot) → b ≡ drop s t → NextAt b i c w k v → NextAt (drop s t) ((s + i) - s) c w k v
+pub rest_next : (t b : List ℕ) (s i k : ℕ) (c : List Kind) (w v : ExpectedPart) → b ≡ drop s t → NextAt b i c w k v → NextAt (drop s t) ((s + i) - s) c w k v
 rest_next t b s i k c w v e h =
     let n : i ≡ (s + i) - s = omega arith in
     subst (λ m. NextAt (drop s t) m c w k v) n (subst (λ y. NextAt y i c w k v) e h)

@@ -11,7 +11,7 @@ use Rattle.json_io.specs.declared.error.ErrorCode.{ErrorCode}
 use Rattle.json_io.specs.declared.error.ErrorCode.TheVariants as code
 use Rattle.json_text.specs.Escapes.{escape_step, escape_refusal, EscapeStops}
 use Rattle.json_scan.specs.Runs.{ByteAt}
-use Rattle.json_text.specs.Spelled.{Spells, Quoted, StringStops}
+use Rattle.json_text.specs.Spelled.{Spells, IsStringAt, StringStops}
 use Rattle.json_io.proofs.Pieces.{drop_byte}
 use Rattle.json_text.proofs.StringFaults.{Inside, plain_inside, escape_inside, no_atom}
 use Rattle.json_text.proofs.Tokens.{quoted_bytes}
@@ -53,7 +53,7 @@ module _ (lossy : Bool) where
       go (atom_and {e = v} {b = b} k l) f = at_part v (b ++ 34 ∷ n) k (cut e r v (b ++ 34 ∷ n) (f ∙ append_assoc v b (34 ∷ n)))
 
   -- the bytes of the supposed string, from its opening quotation mark on
-  both_rows : (b raw : List ℕ) (at k j : ℕ) (m e : List ℕ) → take k b ≡ take at b ++ (34 ∷ (m ++ e)) → Quoted lossy b at raw j → m ++ (e ++ drop k b) ≡ raw ++ 34 ∷ drop j b
+  both_rows : (b raw : List ℕ) (at k j : ℕ) (m e : List ℕ) → take k b ≡ take at b ++ (34 ∷ (m ++ e)) → IsStringAt lossy b at raw j → m ++ (e ++ drop k b) ≡ raw ++ 34 ∷ drop j b
   both_rows b raw at k j m e row q =
       let o = q.order in
       let l : b ≡ take at b ++ (34 ∷ (m ++ e) ++ drop k b) = sym (take-append-drop k b) ∙ ap (λ y. y ++ drop k b) row ∙ append_assoc (take at b) (34 ∷ (m ++ e)) (drop k b) in
@@ -62,7 +62,7 @@ module _ (lossy : Bool) where
       let s : 34 ∷ ((m ++ e) ++ drop k b) ≡ 34 ∷ ((raw ++ 34 ∷ []) ++ drop j b) = append_cancel_left (take at b) _ _ (sym l ∙ r) in
       sym (append_assoc m e (drop k b)) ∙ tail s ∙ append_assoc raw (34 ∷ []) (drop j b)
 
-  inside_not_whole : (b raw : List ℕ) (at k j : ℕ) (e : List ℕ) → Inside lossy b at k e → NoPart e (drop k b) → ¬ (Quoted lossy b at raw j)
+  inside_not_whole : (b raw : List ℕ) (at k j : ℕ) (e : List ℕ) → Inside lossy b at k e → NoPart e (drop k b) → ¬ (IsStringAt lossy b at raw j)
   inside_not_whole b raw at k j e i o q =
       no_close e i.rest (drop k b) (drop j b) i.goes_on i.unfinished o
       (atoms_onward lossy (e ++ drop k b) (drop j b) i.atoms (chars_atoms lossy q.spells) (both_rows b raw at k j i.m e i.row q))
@@ -77,7 +77,7 @@ module _ (lossy : Bool) where
       let i : get_or b k 0 ≡ x = cc in
       (λ n. subst (λ y. ¬ (Atom lossy (e ++ y ∷ n))) i (o n), λ p. subst (λ y. y ≢ 34) i (q p))
 
-  pub stops_no_string : (b raw : List ℕ) (at k j : ℕ) (co : ErrorCode) → ByteAt b at 34 → StringStops lossy b (at + 1) co k → ¬ (Quoted lossy b at raw j)
+  pub stops_no_string : (b raw : List ℕ) (at k j : ℕ) (co : ErrorCode) → ByteAt b at 34 → StringStops lossy b (at + 1) co k → ¬ (IsStringAt lossy b at raw j)
   stops_no_string b raw at k j co q s h = go s.why
     where
       whole : k ≡ s.to → Spells lossy b (at + 1) k s.escaped
@@ -97,5 +97,5 @@ module _ (lossy : Bool) where
           by (inr (l, f, g)) = no_part_at b (92 ∷ m) k l (no_atom lossy z.state m (get_or b k 0) z.leads f) (λ i. absurd (empty 92 m (sym i)))
 
   -- the same string of another input at another place
-  pub moved_string : (b c raw : List ℕ) (i j e : ℕ) → b ≡ c → i ≡ j → Quoted lossy c j raw e → Quoted lossy b i raw e
-  moved_string b c raw i j e f g q = subst (λ k. Quoted lossy b k raw e) (sym g) (subst (λ y. Quoted lossy y j raw e) (sym f) q)
+  pub moved_string : (b c raw : List ℕ) (i j e : ℕ) → b ≡ c → i ≡ j → IsStringAt lossy c j raw e → IsStringAt lossy b i raw e
+  moved_string b c raw i j e f g q = subst (λ k. IsStringAt lossy b k raw e) (sym g) (subst (λ y. IsStringAt lossy y j raw e) (sym f) q)

@@ -17,7 +17,7 @@ use Rattle.bstr.proofs.lemmas.UnicodeLemmas.{none_after_valid, replacement_bytes
 use Rattle.std.proofs.lemmas.Str.{length-encode, len_utf8_bounds}
 use lib.Utf8.{scalars}
 use Rattle.json_text.specs.declared.repaired.IllFormed.{IllFormed}
-use Rattle.json_text.specs.Repaired.{shown_size, origin_within, origin_in, origin_at, later_or, last_shown, origin_behind, origin_by}
+use Rattle.json_text.specs.Repaired.{shown_size, origin_within, origin_in, origin_at, later_or, last_shown, origin_after, origin_by}
 
 below : {A : Type 0} (a b : ℕ) (x y : A) → a < b → cond (nat_lt a b) x y ≡ x
 below a b x y h = let e : nat_lt a b ≡ true = grind (arith, nat_tests) in cond-true _ _ _ e
@@ -120,7 +120,7 @@ shown_at (x ∷ rs) (suc i) k d f g l =
 
 -- the origin of a place after the last U+FFFD
 pub origin_past : (runs : List IllFormed) (r : IllFormed) (k : ℕ) → last_shown runs k ≡ Some r → 3 ≤ k - r.shown → origin_by runs k ≡ r.end + (k - r.shown - 3)
-origin_past runs r k e h = ap (λ o. origin_behind o k) e ∙ above k (r.shown + 3) _ _ (omega arith) ∙ omega arith
+origin_past runs r k e h = ap (λ o. origin_after o k) e ∙ above k (r.shown + 3) _ _ (omega arith) ∙ omega arith
 
 -- ---- what is kept while chunks are read
 
@@ -128,7 +128,7 @@ origin_past runs r k e h = ap (λ o. origin_behind o k) e ∙ above k (r.shown +
 pub record Repairing (b text rest : List ℕ) (runs : List IllFormed) (read : ℕ) : Type 0 where
   pub whole : text ++ utf8_lossy rest ≡ utf8_lossy b
   pub taken : read + length rest ≡ length b
-  pub behind : (k : ℕ) → k < length text → (origin_by runs k ≡ origin_at b k) × (origin_at b k ≤ read)
+  pub after : (k : ℕ) → k < length text → (origin_by runs k ≡ origin_at b k) × (origin_at b k ≤ read)
   pub ahead : (k : ℕ) → length text ≤ k → (origin_by runs k ≡ read + (k - length text)) × (origin_at b k ≡ read + origin_at rest (k - length text))
   pub sorted : IsNonDecreasingBy (λ (x : IllFormed). x.shown) runs
   pub shown : (i : ℕ) (d : IllFormed) → i < length runs → (slice_index_or runs i d).shown ≤ length text
@@ -141,7 +141,7 @@ repair_text b text v r runs read u h =
     record {
       whole = append_assoc text v (utf8_lossy r) ∙ ap (λ x. text ++ x) (sym (lossy_front v r u)) ∙ h.whole;
       taken = let t = h.taken in omega arith;
-      behind = λ k l. ⊎_elim (λ (s : k < length text). let o = h.behind k s in (o.0, omega arith))
+      after = λ k l. ⊎_elim (λ (s : k < length text). let o = h.after k s in (o.0, omega arith))
           (λ (s : length text ≤ k).
           let o = h.ahead k s in
           let f : origin_at (v ++ r) (k - length text) ≡ k - length text = (own (k - length text)).0 (omega arith) in
@@ -161,7 +161,7 @@ repair_end : (b text : List ℕ) (runs : List IllFormed) (read : ℕ) → Repair
 repair_end b text runs read h =
     let t = h.taken in (
       sym (append-nil text) ∙ ap (λ x. text ++ x) (sym nothing) ∙ h.whole,
-      λ k l. ⊎_elim (λ (s : k < length text). let o = h.behind k s in (o.0, omega arith))
+      λ k l. ⊎_elim (λ (s : k < length text). let o = h.after k s in (o.0, omega arith))
           (λ (s : length text ≤ k).
           let o = h.ahead k s in
           let e : k - length text ≡ 0 = omega arith in
@@ -208,18 +208,18 @@ repair_run b text inv r runs read some none size h =
     record {
       whole = append_assoc text fffd (utf8_lossy r) ∙ ap (λ x. text ++ x) (ap (λ x. fffd ++ utf8_lossy x) (sym rest) ∙ sym (lossy_run (inv ++ r) long none)) ∙ h.whole;
       taken = let t = h.taken in omega arith;
-      behind = λ k l. ⊎_elim (λ (s : k < length text). let o = h.behind k s in (ap (λ x. origin_behind x k) (last_shown_old runs new k s) ∙ o.0, omega arith))
+      after = λ k l. ⊎_elim (λ (s : k < length text). let o = h.after k s in (ap (λ x. origin_after x k) (last_shown_old runs new k s) ∙ o.0, omega arith))
           (λ (s : length text ≤ k).
           let o = h.ahead k s in
           let f : origin_at (inv ++ r) (k - length text) ≡ 0 = step (k - length text) ∙ below (k - length text) 3 _ _ (omega arith) in
-          (ap (λ x. origin_behind x k) (last_shown_new runs new k s) ∙ below k (length text + 3) _ _ (omega arith) ∙ omega arith, omega arith))
+          (ap (λ x. origin_after x k) (last_shown_new runs new k s) ∙ below k (length text + 3) _ _ (omega arith) ∙ omega arith, omega arith))
           (cases_lt k (length text));
       ahead = λ k l.
           let o = h.ahead k (omega arith) in
           let e : k - length text - 3 ≡ k - length (text ++ fffd) = omega arith in
           let g = ap (origin_at r) e in
           let f = step (k - length text) ∙ above (k - length text) 3 _ _ (omega arith) in
-          (ap (λ x. origin_behind x k) (last_shown_new runs new k (omega arith)) ∙ above k (length text + 3) _ _ (omega arith) ∙ omega arith, omega arith);
+          (ap (λ x. origin_after x k) (last_shown_new runs new k (omega arith)) ∙ above k (length text + 3) _ _ (omega arith) ∙ omega arith, omega arith);
       sorted = sorted_more runs new h.sorted h.shown;
       shown = λ i d l. let o = shown_more runs new (length text) h.shown (omega arith) i d l in omega arith;
     }

@@ -4,7 +4,7 @@ use Rattle.std.proofs.lemmas.Bool.{eqb-true, agree_below, agree_below_at, cases_
 use Rattle.std.specs.Char.{digit_value}
 use Rattle.json_text.specs.declared.escape.Escape.{Escape}
 use Rattle.json_text.specs.declared.escape.Escape.TheVariants.{U as letter_u, Done as finished}
-use Rattle.json_text.specs.Escapes.{first_step, short_byte, hex_or_more, HexBehind}
+use Rattle.json_text.specs.Escapes.{first_step, short_byte, hex_or_more, HexAfter}
 
 -- a table that agrees at each of the 256 bytes
 pub from_table : (table : List ℕ) (f : ℕ → ℕ) (x : ℕ) → x < 256 → agree_below (λ b. get_or table b 0 == f b) (λ _. true) 256 ≡ true → get_or table x 0 ≡ f x
@@ -67,7 +67,7 @@ same_sum : (p q r s a b c d u : ℕ) → p ≡ a → q ≡ b → r ≡ c → s �
 same_sum p q r s a b c d u f g h k e = omega arith
 
 pub unit_spelled : (b : List ℕ) (i p q r s u : ℕ) → p ≡ hex_or_more (get_or b (i + 1) 0) → q ≡ hex_or_more (get_or b (i + 2) 0) → r ≡ hex_or_more (get_or b (i + 3) 0) → s ≡ hex_or_more (get_or b (i + 4) 0)
-    → p * 4096 + q * 256 + r * 16 + s ≡ u → u < 65536 → HexBehind b i u
+    → p * 4096 + q * 256 + r * 16 + s ≡ u → u < 65536 → HexAfter b i u
 unit_spelled b i p q r s u f g h k e l =
     let m = below_each p q r s u e l in
     let w = hex_is (get_or b (i + 1) 0) (subst Below f m.0) in

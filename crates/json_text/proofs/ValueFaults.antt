@@ -2,7 +2,7 @@
 use Rattle.std.proofs.Common.{◌≡◌, ◌∙◌, ℕ, ◌≤◌, List, [], ◌∷◌, ◌++◌, length, take, drop, ◌⊎◌, inl, inr, refl, sym, ap, subst, arith, append-nil, Option, Some, IfSome, Bool}
 use Rattle.std.proofs.lemmas.List.{take-append-drop}
 use Rattle.json_grammar.specs.Tree.{Tree, tokens}
-use Rattle.json_grammar.specs.declared.Spot.TheVariants.{Done as done}
+use Rattle.json_grammar.specs.declared.ExpectedPart.TheVariants.{Done as done}
 use Rattle.json_grammar.specs.Grammar.{is_text}
 use Rattle.json_grammar.specs.Place.{place, reading, viable_prefix}
 use Rattle.json_grammar.specs.NumberEnds.{TreeEnds}

@@ -8,19 +8,19 @@ use Rattle.json_grammar.specs.Grammar.{number, IsDigit}
 use Rattle.json_grammar.specs.NumberStates.{NumberState, at_start, after_zero, no_number, number_step, number_run, is_whole_number}
 use Rattle.json_grammar.proofs.NumberRuns.{number_ends, no_number_goes_on}
 use Rattle.json_grammar.proofs.NumberScan.{number_by_state, ended_whole}
-use Rattle.json_text.specs.Numbers.{Stands, IsUnfinished, NumberTo, StopsAt}
+use Rattle.json_text.specs.Numbers.{ReachesState, IsUnfinished, NumberTo, StopsAt}
 use Rattle.json_io.proofs.Pieces.{drop_piece, drop_byte}
 
 false_true : false ≡ true → ⊥
 false_true e = cc
 
 -- where no number goes on, none is whole
-no_more : (b : List ℕ) (k : ℕ) (s : NumberState) → Stands b 0 k s → k < length b → number_step s (get_or b k 0) ≡ no_number → ¬ (number b)
+no_more : (b : List ℕ) (k : ℕ) (s : NumberState) → ReachesState b 0 k s → k < length b → number_step s (get_or b k 0) ≡ no_number → ¬ (number b)
 no_more b k s h l e n =
     let row : b ≡ piece b 0 k ++ get_or b k 0 ∷ drop (suc k) b = drop_piece b 0 k (omega arith) ∙ ap (λ r. piece b 0 k ++ r) (drop_byte b k l) in
     no_number_goes_on (piece b 0 k) (get_or b k 0) (drop (suc k) b) (ap (λ t. number_step t (get_or b k 0)) h.leads ∙ e) (subst number row n)
 
-state_of_all : (b : List ℕ) (k : ℕ) (s : NumberState) → Stands b 0 k s → k ≡ length b → number_run at_start b ≡ s
+state_of_all : (b : List ℕ) (k : ℕ) (s : NumberState) → ReachesState b 0 k s → k ≡ length b → number_run at_start b ≡ s
 state_of_all b k s h e =
     let all : piece b 0 k ≡ b = take_all (k - 0) b (omega arith) in
     ap (number_run at_start) (sym all) ∙ h.leads

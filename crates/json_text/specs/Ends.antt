@@ -29,7 +29,7 @@ pub record TrailsAt (s : ParserState) (e : Error) : Type 0 where
   pub at : ℕ
   pub next : ComesNext s at
   pub some : at < length s.text
-  pub told : e ≡ record { code = code.TrailingCharacters; place = place_at s.text at }
+  pub reported : e ≡ record { code = code.TrailingCharacters; place = place_at s.text at }
 
 -- it reads a text from i on, and has taken nothing yet
 pub record IsNewAt (text : List ℕ) (lossy : Bool) (limit i : ℕ) (s : ParserState) : Type 0 where
@@ -46,7 +46,7 @@ pub record ReadsEnd (old : ParserState) (k : Kind) (new : ParserState) : Type 0 
   pub at : ℕ
   pub next : ComesNext old at
   pub closes : ByteAt old.text at (closing k)
-  pub behind : IsNewAt old.text old.lossy old.limit (at + 1) new
+  pub after : IsNewAt old.text old.lossy old.limit (at + 1) new
 
 -- why a sequence or a map does not end with what follows
 abbrev pub no_end : Kind → Option ℕ → ErrorCode
@@ -59,4 +59,4 @@ pub record LacksEnd (s : ParserState) (k : Kind) (e : Error) : Type 0 where
   pub at : ℕ
   pub next : ComesNext s at
   pub other : ¬ (ByteAt s.text at (closing k))
-  pub told : e ≡ record { code = no_end k (slice_get s.text at); place = place_at s.text at }
+  pub reported : e ≡ record { code = no_end k (slice_get s.text at); place = place_at s.text at }

@@ -1,8 +1,8 @@
 -- What a clause sees of a parser.
 use Rattle.std.specs.Prelude.{◌≡◌, ℕ, ◌+◌, ◌-◌, ◌<◌, ◌≤◌, List, [], ◌∷◌, ◌++◌, length, get_or, take, drop, Bool, Option, Some, IfSome, Result, OnOk, IfOk, IfErr, None}
 use Rattle.json_grammar.specs.declared.Kind.{Kind}
-use Rattle.json_grammar.specs.declared.Spot.{Spot}
-use Rattle.json_grammar.specs.declared.Spot.TheVariants as spot
+use Rattle.json_grammar.specs.declared.ExpectedPart.{ExpectedPart}
+use Rattle.json_grammar.specs.declared.ExpectedPart.TheVariants as expected
 use Rattle.json_grammar.specs.Tree.{Tree, depth, Token, tokens}
 use Rattle.json_grammar.specs.Grammar.{is_text}
 use Rattle.json_grammar.specs.Given.{piece, LastEnds}
@@ -15,7 +15,7 @@ use Rattle.json_text.specs.Events.{Means, IsRead, raw_size, event_bytes, EndsTok
 use Rattle.json_text.specs.Faults.{IsFault, FaultFrom, IsInValue}
 use Rattle.json_text.specs.Due.{NextNeeds}
 use Rattle.json_io.specs.Positions.{place_at}
-use Rattle.json_text.specs.Standing.{Stood}
+use Rattle.json_text.specs.Readers.{ReaderAt}
 
 -- the whole text and where reading began in it; whether it is read in the lossy mode; the most
 -- levels of a tree; the place after what was taken, counted from the beginning of the text; the
@@ -27,28 +27,28 @@ pub record ParserState : Type 0 where
   pub limit : ℕ
   pub index : ℕ
   pub open_kinds : List Kind
-  pub spot : Spot
+  pub expected : ExpectedPart
   pub failure : Option Error
 
 -- of a parser that took that many bytes of what it reads
-abbrev pub state_of : List ℕ → ℕ → Bool → ℕ → ℕ → List Kind → Spot → Option Error → ParserState
-state_of text start lossy limit at c w f = record { text = text; start = start; lossy = lossy; limit = limit; index = start + at; open_kinds = c; spot = w; failure = f }
+abbrev pub state_of : List ℕ → ℕ → Bool → ℕ → ℕ → List Kind → ExpectedPart → Option Error → ParserState
+state_of text start lossy limit at c w f = record { text = text; start = start; lossy = lossy; limit = limit; index = start + at; open_kinds = c; expected = w; failure = f }
 
 -- what is read
 abbrev pub input : ParserState → List ℕ
 input s = drop s.start s.text
 
 -- how many bytes of it were taken
-abbrev pub taken : ParserState → ℕ
-taken s = s.index - s.start
+abbrev pub consumed : ParserState → ℕ
+consumed s = s.index - s.start
 
 -- the events so far, End aside, were these tokens
 abbrev pub HasGiven : ParserState → List Token → Type 0
-HasGiven s ts = Stood s.lossy s.limit (input s) (taken s) s.open_kinds s.spot ts
+HasGiven s ts = ReaderAt s.lossy s.limit (input s) (consumed s) s.open_kinds s.expected ts
 
 -- a value was read, and nothing is open
 abbrev pub IsWhole : ParserState → Type 0
-IsWhole s = (s.spot ≡ spot.Done) × (length s.open_kinds ≡ 0)
+IsWhole s = (s.expected ≡ expected.Done) × (length s.open_kinds ≡ 0)
 
 -- what a parser reads stays
 pub record SameInput (old new : ParserState) : Type 0 where
@@ -58,9 +58,9 @@ pub record SameInput (old new : ParserState) : Type 0 where
   pub limit : new.limit ≡ old.limit
 
 -- an event of one more token, or the end: then the input is a text of the tree of these tokens, within the limit, and nothing is taken
-abbrev pub Goes : ParserState → Event → ParserState → Type 0
-Goes old event.End new = (new ≡ old) × ((ts : List Token) → HasGiven old ts → (t : Tree) × is_text old.lossy t (input old) × (ts ≡ tokens t) × (depth t ≤ old.limit))
-Goes old e new = (ts : List Token) → HasGiven old ts → (x : Token) × Means e x × HasGiven new (ts ++ x ∷ [])
+abbrev pub AdvancesTo : ParserState → Event → ParserState → Type 0
+AdvancesTo old event.End new = (new ≡ old) × ((ts : List Token) → HasGiven old ts → (t : Tree) × is_text old.lossy t (input old) × (ts ≡ tokens t) × (depth t ≤ old.limit))
+AdvancesTo old e new = (ts : List Token) → HasGiven old ts → (x : Token) × Means e x × HasGiven new (ts ++ x ∷ [])
 
 -- what was taken before is followed by a gap and then the event's token, byte for byte, and the
 -- parser is right after that: neither whitespace nor a comma or a colon was taken after it
@@ -99,16 +99,16 @@ pub record IsDue (old : ParserState) (e : Error) : Type 0 where
   pub offset : ℕ
   pub place : e.place ≡ place_at old.text (old.start + offset)
   pub fault : IsFault old.lossy old.limit (input old) e.code offset
-  pub needs : NextNeeds old.lossy (input old) (taken old) e.code offset
+  pub needs : NextNeeds old.lossy (input old) (consumed old) e.code offset
 
 -- the events so far begin the tokens of each text that begins so; where the last is a number, of each in which it goes no further
 abbrev pub EventsBeginTexts : ParserState → Type 0
-EventsBeginTexts s = (ts : List Token) → HasGiven s ts → (t : Tree) (b : List ℕ) → is_text s.lossy t (take (taken s) (input s) ++ b) → LastEnds s.spot ts b → (m : List Token) × (tokens t ≡ ts ++ m)
+EventsBeginTexts s = (ts : List Token) → HasGiven s ts → (t : Tree) (b : List ℕ) → is_text s.lossy t (take (consumed s) (input s) ++ b) → LastEnds s.expected ts b → (m : List Token) × (tokens t ≡ ts ++ m)
 
 -- one value was read, whatever follows it, and the parser is right after it: a number is the
 -- longest there, and no digit follows a leading zero
 abbrev pub HasRead : ParserState → Type 0
-HasRead s = (ts : List Token) → HasGiven s ts → (t : Tree) × reads s.lossy (input s) t (taken s) × (ts ≡ tokens t) × (depth t ≤ s.limit)
+HasRead s = (ts : List Token) → HasGiven s ts → (t : Tree) × reads s.lossy (input s) t (consumed s) × (ts ≡ tokens t) × (depth t ≤ s.limit)
 
 -- what is true of each parser, which keeps what is left of the text from the start on
 pub record IsSound (rest : List ℕ) (s : ParserState) : Type 0 where
@@ -134,7 +134,7 @@ ReadsWhenWhole old new result = OnOk result (¬ (IsWhole old) → IsWhole new �
 
 -- the event is read, and none was refused
 abbrev pub ReadsNextEvent : {E : Type 0} → (old new : ParserState) → Result Event E → Type 0
-ReadsNextEvent old new result = IfOk result (λ e. (old.failure ≡ None) × (new.failure ≡ None) × Goes old e new)
+ReadsNextEvent old new result = IfOk result (λ e. (old.failure ≡ None) × (new.failure ≡ None) × AdvancesTo old e new)
 
 -- the parser is right after the event's token
 abbrev pub StopsTight : {E : Type 0} → (old new : ParserState) → Result Event E → Type 0

@@ -44,12 +44,12 @@ last_shown [] k = None
 last_shown (r ∷ rs) k = later_or (last_shown rs k) r k
 
 -- the origin of k, by that run
-abbrev pub origin_behind : Option IllFormed → ℕ → ℕ
-origin_behind None k = k
-origin_behind (Some r) k = cond (nat_lt k (r.shown + 3)) r.from (r.end + (k - (r.shown + 3)))
+abbrev pub origin_after : Option IllFormed → ℕ → ℕ
+origin_after None k = k
+origin_after (Some r) k = cond (nat_lt k (r.shown + 3)) r.from (r.end + (k - (r.shown + 3)))
 
 abbrev pub origin_by : List IllFormed → ℕ → ℕ
-origin_by runs k = origin_behind (last_shown runs k) k
+origin_by runs k = origin_after (last_shown runs k) k
 
 -- the origin of the offset k of the repaired text
 abbrev pub origin_of : RepairedText → ℕ → ℕ

@@ -1,23 +1,23 @@
 // The reader of a text.
 ghost use Rattle.std.specs.Prelude.{◌≡◌, ◌⊎◌, ◌+◌, ◌<◌, ◌≤◌, ◌↔◌, ◌==◌, List, [], true, false, length, get_or, cond, IsTrue, IsSome, Some, None, IfSome, IfOk, IfErr, OnOk, OnErr};
 ghost use Rattle.std.specs.Str.{IsCharBoundary};
-ghost use Rattle.json_grammar.specs.declared.Spot.TheVariants as Spot;
+ghost use Rattle.json_grammar.specs.declared.ExpectedPart.TheVariants as ExpectedPart;
 ghost use Rattle.json_grammar.specs.Grammar.{IsWhitespace, ws};
 ghost use Rattle.json_grammar.specs.Given.{piece};
 ghost use Rattle.json_text.specs.Faults.{IsFault, IsInValue, ValueFaultFrom};
 ghost use Rattle.json_text.specs.Due.{NextNeeds};
-ghost use Rattle.json_text.specs.Parsing.{input, taken, HasGiven, SameInput, IsWhole, Goes, ReadsWhenWhole, ReadsNextEvent, StopsTight, LendsBefore, EndsWhole, RefusesOnErr, FailsWhenDue, FailsInValue};
+ghost use Rattle.json_text.specs.Parsing.{input, consumed, HasGiven, SameInput, IsWhole, AdvancesTo, ReadsWhenWhole, ReadsNextEvent, StopsTight, LendsBefore, EndsWhole, RefusesOnErr, FailsWhenDue, FailsInValue};
 ghost use Rattle.json_text.specs.Parsing.{Refuses, IsDue, EventsBeginTexts};
 ghost use Rattle.json_text.specs.Ends.{ComesNext, NothingLeft, IsNewAt, TrailsAt, ReadsEnd, LacksEnd, no_end as spec_no_end};
 ghost use Rattle.json_io.specs.Positions.{place_at};
 
 use crate::event::Event;
 use crate::fault::Fault;
-use crate::spot::closing;
-use crate::stack::Kinds;
-use crate::steps::{is_whole, step};
+use crate::next_parts::closing_byte;
+use crate::stack::ContainerStack;
+use crate::steps::{is_whole_value, step};
 use crate::token::Cursor;
-use json_grammar::{Kind, Spot};
+use json_grammar::{ExpectedPart, Kind};
 use json_io::{Error, ErrorCode, Result, place_of};
 use json_scan::ws_run;
 use std::marker::Model;
@@ -57,8 +57,8 @@ pub struct Parser<'a> {
     // how many bytes of the rest were taken
     at: usize,
     limit: usize,
-    kinds: Kinds,
-    spot: Spot,
+    kinds: ContainerStack,
+    expected: ExpectedPart,
     failure: Option<Error>,
 }
 
@@ -67,10 +67,10 @@ impl<'a> Model for Parser<'a> {
 
     ghost Value = { ParserState };
 
-    ghost view = { λ a. state_of a.text.now a.start a.lossy a.limit a.at a.kinds a.spot a.failure };
+    ghost view = { λ a. state_of a.text.now a.start a.lossy a.limit a.at a.kinds a.expected a.failure };
 
     ghost invariant = { λ a. IsSound a.rest.now
-        (state_of a.text.now a.start a.lossy a.limit a.at a.kinds a.spot a.failure) };
+        (state_of a.text.now a.start a.lossy a.limit a.at a.kinds a.expected a.failure) };
 }
 
 // Why a container of the kind does not end at a byte.
@@ -106,8 +106,8 @@ impl<'a> Parser<'a> {
             lossy: false,
             at: 0,
             limit: LEVELS,
-            kinds: Kinds::new(),
-            spot: Spot::Value,
+            kinds: ContainerStack::new(),
+            expected: ExpectedPart::Value,
             failure: None,
         }
     }
@@ -148,8 +148,8 @@ impl<'a> Parser<'a> {
             lossy,
             at: 0,
             limit,
-            kinds: Kinds::new(),
-            spot: Spot::Value,
+            kinds: ContainerStack::new(),
+            expected: ExpectedPart::Value,
             failure: None,
         }
     }
@@ -206,9 +206,9 @@ impl<'a> Parser<'a> {
     /// Returns whether the value is whole.
     #[inline(always)]
     pub fn done(&self) -> bool
-        ensures { IsTrue result ↔ ((self.now.spot ≡ Spot.Done) × (length self.now.open_kinds ≡ 0)) }
+        ensures { IsTrue result ↔ ((self.now.expected ≡ ExpectedPart.Done) × (length self.now.open_kinds ≡ 0)) }
     {
-        is_whole(self.spot, self.kinds.top())
+        is_whole_value(self.expected, self.kinds.top())
     }
 
     /// The next event, if nothing was refused: a copy for each use.
@@ -217,24 +217,24 @@ impl<'a> Parser<'a> {
         requires { self.old.failure ≡ None }
         ensures same { SameInput self.old self.new }
         ensures failure { self.new.failure ≡ self.old.failure }
-        ensures ok { IfOk result (λ e. Goes self.old e self.new) }
+        ensures ok { IfOk result (λ e. AdvancesTo self.old e self.new) }
         ensures tight { StopsTight self.old self.new result }
         ensures whole { EndsWhole self.old result }
         ensures err { IfErr result (λ f.
             IsFault self.old.lossy self.old.limit (input self.old) f.code f.offset) }
         ensures needs { IfErr result (λ f.
-            NextNeeds self.old.lossy (input self.old) (taken self.old) f.code f.offset) }
+            NextNeeds self.old.lossy (input self.old) (consumed self.old) f.code f.offset) }
         ensures inside { IfErr result (λ f. ¬ (IsWhole self.old) → IsInValue f.code) }
         ensures kept { OnErr result (self.new ≡ self.old) }
     {
         let cursor = Cursor {
             at: self.at,
-            spot: self.spot,
+            expected: self.expected,
         };
         match step::<USE>(self.rest, cursor, self.limit, self.lossy, &mut self.kinds) {
             Ok(read) => {
                 self.at = read.end;
-                self.spot = read.spot;
+                self.expected = read.expected;
                 Ok(read.event)
             }
             Err(fault) => Err(fault),
@@ -248,7 +248,7 @@ impl<'a> Parser<'a> {
         requires new { self.old.failure ≡ None }
         requires fault { IsFault self.old.lossy self.old.limit (input self.old) fault.code
             fault.offset }
-        requires needs { NextNeeds self.old.lossy (input self.old) (taken self.old) fault.code
+        requires needs { NextNeeds self.old.lossy (input self.old) (consumed self.old) fault.code
             fault.offset }
         requires inside { ¬ (IsWhole self.old) → IsInValue fault.code }
         ensures some { IsSome self.new.failure }
@@ -264,7 +264,7 @@ impl<'a> Parser<'a> {
 
     /// What was refused.
     #[inline(always)]
-    fn refusal(&self) -> Error
+    fn kept_error(&self) -> Error
         requires { IsSome self.now.failure }
         ensures { self.now.failure ≡ Some result }
     {
@@ -322,13 +322,13 @@ impl<'a> Parser<'a> {
         ensures begins { EventsBeginTexts self.new }
     {
         if self.failure.is_some() {
-            return Err(self.refusal());
+            return Err(self.kept_error());
         }
         match self.advance::<USE>() {
             Ok(event) => Ok(event),
             Err(fault) => {
                 self.refuse(fault);
-                Err(self.refusal())
+                Err(self.kept_error())
             }
         }
     }
@@ -392,7 +392,7 @@ impl<'a> Parser<'a> {
         if at == bytes.len() {
             return Err(self.error_at(ErrorCode::EofWhileParsing, at));
         }
-        if bytes[at] != closing(kind) {
+        if bytes[at] != closing_byte(kind) {
             return Err(self.error_at(no_end(kind, bytes[at]), at));
         }
         *self = Parser::new_at(self.text, at + 1, self.limit, self.lossy);

@@ -13,12 +13,12 @@ use Rattle.json_io.specs.declared.error.Error.{Error}
 use Rattle.json_text.specs.declared.event.Event.{Event}
 use Rattle.json_text.specs.declared.event.Event.TheVariants as event
 use Rattle.json_text.specs.Events.{Means}
-use Rattle.json_text.specs.Parsing.{ParserState, HasGiven, SameInput, Goes, IsTight, IsWhole, HasRead}
+use Rattle.json_text.specs.Parsing.{ParserState, HasGiven, SameInput, AdvancesTo, IsTight, IsWhole, HasRead}
 use Rattle.json_text.specs.Tokens.{begin_event, end_event}
 use Rattle.json_text.proofs.Bracketed.{begin_is_event, end_is_event}
 use Rattle.json_grammar.specs.TokenStates.{state_in}
-use Rattle.json_tokens.specs.Stand.{NotWhole, Peeks, TakesOne, TakesTree, TakesInteger, TakesNegative, TakesText, TakesKeyPiece}
-use Rattle.json_tokens.specs.Text.{TextTokensState, TakenBefore, spot_before, text_taken, text_tokens_state, event_kind, ReadsAhead, IsReadingText}
+use Rattle.json_tokens.specs.TokensStates.{NotWhole, Peeks, TakesOne, TakesTree, TakesInteger, TakesNegative, TakesText, TakesKeyPiece}
+use Rattle.json_tokens.specs.Text.{TextTokensState, TakenBefore, state_before, text_taken, text_tokens_state, event_kind, ReadsAhead, IsReadingText}
 use Rattle.json_tokens.proofs.Digits.{plain_integer, negative_integer}
 use Rattle.json_tokens.proofs.Events.{reads_ahead, whole_over}
 use Rattle.json_tokens.proofs.Steps.{scalar}
@@ -28,8 +28,8 @@ abbrev pub clear : ParserState → Option Error → TextTokensState
 clear p f = record { parser = p; ahead = None; failed = f }
 
 -- an event was read, and its kind was peeked
-pub told_ahead : (p q : ParserState) (f : Option Error) (e : Event) → ReadsAhead p e q → Peeks (text_tokens_state (clear p f)) (text_tokens_state (record { parser = q; ahead = Some e; failed = f })) (event_kind e)
-told_ahead p q f e r =
+pub peeked_ahead : (p q : ParserState) (f : Option Error) (e : Event) → ReadsAhead p e q → Peeks (text_tokens_state (clear p f)) (text_tokens_state (record { parser = q; ahead = Some e; failed = f })) (event_kind e)
+peeked_ahead p q f e r =
     let s = r.same in
     let text = s.text in let start = s.start in let lossy = s.lossy in let limit = s.limit in
     let n : length q.text ≡ length p.text = ap length s.text in
@@ -37,8 +37,8 @@ told_ahead p q f e r =
     let state_in = r.inside in
     record {
       input = cc;
-      spot = r.spot;
-      told = refl;
+      expected = r.expected;
+      peeked = refl;
       left = omega arith;
       may = r.may;
       again = λ j h. absurd (cc);
@@ -47,7 +47,7 @@ told_ahead p q f e r =
 -- an event was read and taken
 pub taken_at_once : (p q : ParserState) (f : Option Error) (e : Event) (ts : List Tok) → HasGiven p ts → ReadsAhead p e q
     → (x : Tok) × Means e x × TakesOne text_taken text_tokens_state (clear p f) (clear q f) x
-taken_at_once p q f e ts h r = takes_next (clear p f) q f e (event_kind e) (ts, r.goes ts h) (told_ahead p q f e r) (takes_none p q f f e r)
+taken_at_once p q f e ts h r = takes_next (clear p f) q f e (event_kind e) (ts, r.goes ts h) (peeked_ahead p q f e r) (takes_none p q f f e r)
 
 some_bytes : (b : List ℕ) (i j : ℕ) (l : List ℕ) → i < j → j ≤ length b → piece b i j ≡ l → 0 < length l
 some_bytes b i j l h w e = omega (arith, ap length e, length-take (j - i) (drop i b), length-drop i b)
@@ -74,7 +74,7 @@ module _ (a : TextTokensState) (p : ParserState) (o : Option Event) (f : Option 
   unwaiting = ap (λ (t : TextTokensState). t.ahead) seen ∙ none
 
   pub clear_inside : NotWhole (text_tokens_state a) → ¬ (IsWhole p)
-  clear_inside h = λ w. h (subst (λ (t : TextTokensState). (text_tokens_state t).spot ≡ state_in []) seen (subst (λ (u : Option Event). spot_before u p ≡ state_in []) (sym unwaiting) (whole_over p w)))
+  clear_inside h = λ w. h (subst (λ (t : TextTokensState). (text_tokens_state t).expected ≡ state_in []) seen (subst (λ (u : Option Event). state_before u p ≡ state_in []) (sym unwaiting) (whole_over p w)))
 
   -- it goes on after an event
   pub clear_reading : (q : ParserState) (e : Event) → a.failed ≡ None → IsReadingText (record { parser = p; ahead = o; failed = f })
@@ -93,13 +93,13 @@ module _ (a : TextTokensState) (p : ParserState) (o : Option Event) (f : Option 
       let v : clear p f ≡ a = ap (λ (u : Option Event). record { parser = p; ahead = u; failed = f }) (sym unwaiting) ∙ seen in
       subst (λ (u : Option Event). P a (record { parser = q; ahead = u; failed = f })) (sym unwaiting) (subst (λ (b : TextTokensState). P b (clear q f)) v (t i.given.0 h))
 
-pub number_read : (p q : ParserState) (l : _) (ts : List Tok) → HasGiven p ts → SameInput p q → Goes p (event.Number l) q → IsTight p (event.Number l) q → q.failure ≡ None → ReadsAhead p (event.Number l) q
+pub number_read : (p q : ParserState) (l : _) (ts : List Tok) → HasGiven p ts → SameInput p q → AdvancesTo p (event.Number l) q → IsTight p (event.Number l) q → q.failure ≡ None → ReadsAhead p (event.Number l) q
 number_read p q l ts h s g t f = reads_ahead p q (event.Number l) ts h (λ e. absurd (cc)) s g t f
 
-pub text_read : (p q : ParserState) (l : _) (ts : List Tok) → HasGiven p ts → SameInput p q → Goes p (event.Str l) q → IsTight p (event.Str l) q → q.failure ≡ None → ReadsAhead p (event.Str l) q
+pub text_read : (p q : ParserState) (l : _) (ts : List Tok) → HasGiven p ts → SameInput p q → AdvancesTo p (event.Str l) q → IsTight p (event.Str l) q → q.failure ≡ None → ReadsAhead p (event.Str l) q
 text_read p q l ts h s g t f = reads_ahead p q (event.Str l) ts h (λ e. absurd (cc)) s g t f
 
-pub key_read : (p q : ParserState) (l : _) (ts : List Tok) → HasGiven p ts → SameInput p q → Goes p (event.Key l) q → IsTight p (event.Key l) q → q.failure ≡ None → ReadsAhead p (event.Key l) q
+pub key_read : (p q : ParserState) (l : _) (ts : List Tok) → HasGiven p ts → SameInput p q → AdvancesTo p (event.Key l) q → IsTight p (event.Key l) q → q.failure ≡ None → ReadsAhead p (event.Key l) q
 key_read p q l ts h s g t f = reads_ahead p q (event.Key l) ts h (λ e. absurd (cc)) s g t f
 
 pub integer_taken : (p q : ParserState) (f : Option Error) (l : _) (n : ℕ) (ts : List Tok) → HasGiven p ts → ReadsAhead p (event.Number l) q → IsTight p (event.Number l) q
@@ -121,10 +121,10 @@ negative_taken p q f l n ts h r m d v s k =
 
 -- ---- literals
 
-pub null_read : (p q : ParserState) (ts : List Tok) → HasGiven p ts → SameInput p q → Goes p event.Null q → IsTight p event.Null q → q.failure ≡ None → ReadsAhead p event.Null q
+pub null_read : (p q : ParserState) (ts : List Tok) → HasGiven p ts → SameInput p q → AdvancesTo p event.Null q → IsTight p event.Null q → q.failure ≡ None → ReadsAhead p event.Null q
 null_read p q ts h s g t f = reads_ahead p q event.Null ts h (λ e. absurd (cc)) s g t f
 
-pub bool_read : (p q : ParserState) (b : Bool) (ts : List Tok) → HasGiven p ts → SameInput p q → Goes p (event.Bool b) q → IsTight p (event.Bool b) q → q.failure ≡ None → ReadsAhead p (event.Bool b) q
+pub bool_read : (p q : ParserState) (b : Bool) (ts : List Tok) → HasGiven p ts → SameInput p q → AdvancesTo p (event.Bool b) q → IsTight p (event.Bool b) q → q.failure ≡ None → ReadsAhead p (event.Bool b) q
 bool_read p q b ts h s g t f = reads_ahead p q (event.Bool b) ts h (λ e. absurd (cc)) s g t f
 
 pub null_taken : (p q : ParserState) (f : Option Error) (ts : List Tok) → HasGiven p ts → ReadsAhead p event.Null q → TakesTree text_taken text_tokens_state (clear p f) (clear q f) null
@@ -149,10 +149,10 @@ key_taken_at_once p q f l says ts h r k =
 
 -- ---- brackets
 
-pub begin_read : (p q : ParserState) (k : Kind) (ts : List Tok) → HasGiven p ts → SameInput p q → Goes p (begin_event k) q → IsTight p (begin_event k) q → q.failure ≡ None → ReadsAhead p (begin_event k) q
+pub begin_read : (p q : ParserState) (k : Kind) (ts : List Tok) → HasGiven p ts → SameInput p q → AdvancesTo p (begin_event k) q → IsTight p (begin_event k) q → q.failure ≡ None → ReadsAhead p (begin_event k) q
 begin_read p q k ts h s g t f = reads_ahead p q (begin_event k) ts h (begin_is_event k) s g t f
 
-pub end_read : (p q : ParserState) (k : Kind) (ts : List Tok) → HasGiven p ts → SameInput p q → Goes p (end_event k) q → IsTight p (end_event k) q → q.failure ≡ None → ReadsAhead p (end_event k) q
+pub end_read : (p q : ParserState) (k : Kind) (ts : List Tok) → HasGiven p ts → SameInput p q → AdvancesTo p (end_event k) q → IsTight p (end_event k) q → q.failure ≡ None → ReadsAhead p (end_event k) q
 end_read p q k ts h s g t f = reads_ahead p q (end_event k) ts h (end_is_event k) s g t f
 
 means_begin : (k : Kind) (x : Tok) → Means (begin_event k) x → x ≡ begin k

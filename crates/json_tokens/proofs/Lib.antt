@@ -1,5 +1,5 @@
 pub mod Steps
-pub mod Told
+pub mod KindTests
 pub mod Places
 pub mod ValueFaults
 pub mod Events

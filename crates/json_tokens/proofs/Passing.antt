@@ -9,8 +9,8 @@ use Rattle.json_tokens.specs.declared.token.TokenKind.{TokenKind}
 use Rattle.json_tokens.specs.declared.token.TokenKind.TheVariants as kind
 use Rattle.json_tokens.specs.Kinds.{kind_of, first_kind, number_kind}
 use Rattle.json_grammar.specs.TokenStates.{TokenState, Expected, a_value, element_or_end, name_or_end, nothing, state_in, state_after_value, after_token, NameMayCome, EndMayCome}
-use Rattle.json_tokens.specs.Spots.{around, KindMayCome, begins_value, WithinContainer, IsOpen}
-use Rattle.json_tokens.specs.Stand.{TokensState, TakesTokens, Peeks, TakesTree, TakesOne, Leaves, Rest, RestAt, FirstIs, ToldValue, WantsAt, WantsValueAt}
+use Rattle.json_tokens.specs.ExpectedTokens.{around, KindMayCome, begins_value, WithinContainer, IsOpen}
+use Rattle.json_tokens.specs.TokensStates.{TokensState, TakesTokens, Peeks, TakesTree, TakesOne, Leaves, RestOfContainer, RestAt, FirstIs, IsPeekedValue, WantsAt, WantsValueAt}
 use Rattle.json_tokens.proofs.Steps.{joins, scalar}
 
 -- in an object, after a name
@@ -24,15 +24,15 @@ pub data Passing (p : TokenState) : List Tok → TokenState → Type 0 where
   one_key : {xs : List Tok} {c : List Kind} → Passing p xs (state_in (object ∷ c)) → (k : List ℕ) → Passing p (xs ++ key_token k ∷ []) (named c)
   one_member : {xs : List Tok} {c : List Kind} → Passing p xs (named c) → (t : Tree) → Passing p (xs ++ tokens t) (state_in (object ∷ c))
 
-pub rest_of : {p : TokenState} {xs : List Tok} {q : TokenState} → Passing p xs q → (ys : List Tok) → Rest q ys → Rest p (xs ++ ys)
+pub rest_of : {p : TokenState} {xs : List Tok} {q : TokenState} → Passing p xs q → (ys : List Tok) → RestOfContainer q ys → RestOfContainer p (xs ++ ys)
 rest_of here ys r = r
 rest_of {p} (one_element {xs = xs} h t) ys (ts, e) =
-    subst (Rest p) (sym (append_assoc xs (tokens t) ys))
+    subst (RestOfContainer p) (sym (append_assoc xs (tokens t) ys))
     (rest_of h (tokens t ++ ys) (tree_and t ts, ap (λ (zs : List Tok). tokens t ++ zs) e ∙ sym (append_assoc (tokens t) (trees_tokens ts) (end array ∷ []))))
 rest_of {p} (one_key {xs = xs} h k) ys (t, ps, e) =
-    subst (Rest p) (sym (append_assoc xs (key_token k ∷ []) ys)) (rest_of h (key_token k ∷ ys) (pair_and k t ps, ap (λ (zs : List Tok). key_token k ∷ zs) e))
+    subst (RestOfContainer p) (sym (append_assoc xs (key_token k ∷ []) ys)) (rest_of h (key_token k ∷ ys) (pair_and k t ps, ap (λ (zs : List Tok). key_token k ∷ zs) e))
 rest_of {p} (one_member {xs = xs} h t) ys (ps, e) =
-    subst (Rest p) (sym (append_assoc xs (tokens t) ys))
+    subst (RestOfContainer p) (sym (append_assoc xs (tokens t) ys))
     (rest_of h (tokens t ++ ys) (t, ps, ap (λ (zs : List Tok). tokens t ++ zs) e ∙ sym (append_assoc (tokens t) (pairs_tokens ps) (end object ∷ []))))
 
 around_same : {p : TokenState} {xs : List Tok} {q : TokenState} → Passing p xs q → around q ≡ around p
@@ -47,17 +47,17 @@ First [] o k = o ≡ Some k
 First (x ∷ xs) o k = kind_of x ≡ k
 
 -- what was passed between a and b
-pub record Passed {S : Type 0} (taken : S → List Tok → Type 0) (stand : S → TokensState) (a b : S) : Type 0 where
+pub record Passed {S : Type 0} (taken : S → List Tok → Type 0) (state : S → TokensState) (a b : S) : Type 0 where
   pub xs : List Tok
-  pub path : Passing (stand a).spot xs (stand b).spot
-  pub open_there : IsOpen (stand b).spot
+  pub path : Passing (state a).expected xs (state b).expected
+  pub open_there : IsOpen (state b).expected
   pub takes : TakesTokens taken a xs b
-  pub input : (stand b).input ≡ (stand a).input
-  pub unfailed : (stand b).failed ≡ None
-  pub left : (stand b).left ≤ (stand a).left
-  pub first : (k : TokenKind) → (stand a).told ≡ Some k → First xs (stand b).told k
+  pub input : (state b).input ≡ (state a).input
+  pub unfailed : (state b).failed ≡ None
+  pub left : (state b).left ≤ (state a).left
+  pub first : (k : TokenKind) → (state a).peeked ≡ Some k → First xs (state b).peeked k
 
-pub passed_none : {S : Type 0} {taken : S → List Tok → Type 0} {stand : S → TokensState} (a : S) → IsOpen (stand a).spot → (stand a).failed ≡ None → Passed taken stand a a
+pub passed_none : {S : Type 0} {taken : S → List Tok → Type 0} {state : S → TokensState} (a : S) → IsOpen (state a).expected → (state a).failed ≡ None → Passed taken state a a
 passed_none {taken = taken} a o u = record {
   xs = [];
   path = here;
@@ -70,15 +70,15 @@ passed_none {taken = taken} a o u = record {
 }
 
 -- a peeked token is taken
-pub peek_one : {S : Type 0} {taken : S → List Tok → Type 0} {stand : S → TokensState} {a b c : S} {k : TokenKind} {x : Tok}
-    → Peeks (stand a) (stand b) k → TakesTokens taken a [] b → TakesOne taken stand b c x → TakesOne taken stand a c x × (kind_of x ≡ k)
-peek_one {taken = taken} {stand = stand} {a = a} {b = b} {c = c} {k = k} {x = x} h z r =
-    let e : kind_of x ≡ k = r.as_told.told k h.told in
+pub peek_one : {S : Type 0} {taken : S → List Tok → Type 0} {state : S → TokensState} {a b c : S} {k : TokenKind} {x : Tok}
+    → Peeks (state a) (state b) k → TakesTokens taken a [] b → TakesOne taken state b c x → TakesOne taken state a c x × (kind_of x ≡ k)
+peek_one {taken = taken} {state = state} {a = a} {b = b} {c = c} {k = k} {x = x} h z r =
+    let e : kind_of x ≡ k = r.as_peeked.peeked k h.peeked in
     let m = r.moves in (
       record {
         takes = joins z r.takes;
-        moves = record { input = m.input ∙ h.input; spot = m.spot ∙ ap (λ (p : TokenState). after_token p x) h.spot; told = m.told; left = omega (arith, h.left, m.left) };
-        as_told = record { may = subst (λ (i : TokenKind). KindMayCome (stand a).spot i) (sym e) h.may; told = λ i t. e ∙ h.again i t };
+        moves = record { input = m.input ∙ h.input; expected = m.expected ∙ ap (λ (p : TokenState). after_token p x) h.expected; peeked = m.peeked; left = omega (arith, h.left, m.left) };
+        as_peeked = record { may = subst (λ (i : TokenKind). KindMayCome (state a).expected i) (sym e) h.may; peeked = λ i t. e ∙ h.again i t };
       },
       e,
     )
@@ -141,19 +141,19 @@ value_path {p = p} {xs = xs} q h o t m = by q.expected q.opened h o m
     by nothing c h o m = absurd o
 
 -- a tree more
-pub passed_tree : {S : Type 0} {taken : S → List Tok → Type 0} {stand : S → TokensState} {a b c : S} {t : Tree} → Passed taken stand a b → TakesTree taken stand b c t → (stand c).failed ≡ None → Passed taken stand a c
-passed_tree {taken = taken} {stand = stand} {a = a} {b = b} {c = c} {t = t} w r u =
+pub passed_tree : {S : Type 0} {taken : S → List Tok → Type 0} {state : S → TokensState} {a b c : S} {t : Tree} → Passed taken state a b → TakesTree taken state b c t → (state c).failed ≡ None → Passed taken state a c
+passed_tree {taken = taken} {state = state} {a = a} {b = b} {c = c} {t = t} w r u =
     let m = r.moves in
-    let h = value_path (stand b).spot w.path w.open_there t r.as_told.may in
+    let h = value_path (state b).expected w.path w.open_there t r.as_peeked.may in
     record {
       xs = w.xs ++ tokens t;
-      path = subst (λ (q : TokenState). Passing (stand a).spot (w.xs ++ tokens t) q) (sym m.spot) h.0;
-      open_there = subst IsOpen (sym m.spot) h.1;
+      path = subst (λ (q : TokenState). Passing (state a).expected (w.xs ++ tokens t) q) (sym m.expected) h.0;
+      open_there = subst IsOpen (sym m.expected) h.1;
       takes = joins w.takes r.takes;
       input = m.input ∙ w.input;
       unfailed = u;
       left = omega (arith, w.left, m.left);
-      first = λ k e. first_more (w.xs ++ tokens t) (stand c).told k (first_append w.xs (tokens t) (stand b).told k (w.first k e) (λ f. subst (FirstIs (tokens t)) (r.as_told.told k f) (first_tree t)));
+      first = λ k e. first_more (w.xs ++ tokens t) (state c).peeked k (first_append w.xs (tokens t) (state b).peeked k (w.first k e) (λ f. subst (FirstIs (tokens t)) (r.as_peeked.peeked k f) (first_tree t)));
     }
 
 key_path : {p : TokenState} {xs : List Tok} (q : TokenState) → Passing p xs q → IsOpen q → (s : List ℕ) → KindMayCome q kind.Key → Passing p (xs ++ key_token s ∷ []) (after_token q (key_token s)) × IsOpen (after_token q (key_token s))
@@ -168,24 +168,24 @@ key_path {p = p} {xs = xs} q h o s m = by q.expected q.opened h o m
     by nothing c h o m = absurd m
 
 -- a key more
-passed_key : {S : Type 0} {taken : S → List Tok → Type 0} {stand : S → TokensState} {a b c : S} {s : List ℕ} → Passed taken stand a b → TakesOne taken stand b c (key_token s) → (stand c).failed ≡ None → Passed taken stand a c
-passed_key {taken = taken} {stand = stand} {a = a} {b = b} {c = c} {s = s} w r u =
+passed_key : {S : Type 0} {taken : S → List Tok → Type 0} {state : S → TokensState} {a b c : S} {s : List ℕ} → Passed taken state a b → TakesOne taken state b c (key_token s) → (state c).failed ≡ None → Passed taken state a c
+passed_key {taken = taken} {state = state} {a = a} {b = b} {c = c} {s = s} w r u =
     let m = r.moves in
-    let h = key_path (stand b).spot w.path w.open_there s r.as_told.may in
+    let h = key_path (state b).expected w.path w.open_there s r.as_peeked.may in
     record {
       xs = w.xs ++ key_token s ∷ [];
-      path = subst (λ (q : TokenState). Passing (stand a).spot (w.xs ++ key_token s ∷ []) q) (sym m.spot) h.0;
-      open_there = subst IsOpen (sym m.spot) h.1;
+      path = subst (λ (q : TokenState). Passing (state a).expected (w.xs ++ key_token s ∷ []) q) (sym m.expected) h.0;
+      open_there = subst IsOpen (sym m.expected) h.1;
       takes = joins w.takes r.takes;
       input = m.input ∙ w.input;
       unfailed = u;
       left = omega (arith, w.left, m.left);
-      first = λ k e. first_more (w.xs ++ key_token s ∷ []) (stand c).told k (first_append w.xs (key_token s ∷ []) (stand b).told k (w.first k e) (λ f. r.as_told.told k f));
+      first = λ k e. first_more (w.xs ++ key_token s ∷ []) (state c).peeked k (first_append w.xs (key_token s ∷ []) (state b).peeked k (w.first k e) (λ f. r.as_peeked.peeked k f));
     }
 
 -- a token that is no bracket
-pub passed_one : {S : Type 0} {taken : S → List Tok → Type 0} {stand : S → TokensState} {a b c : S} (x : Tok) → Passed taken stand a b → TakesOne taken stand b c x
-    → kind_of x ≢ kind.BeginArray → kind_of x ≢ kind.BeginObject → kind_of x ≢ kind.EndArray → kind_of x ≢ kind.EndObject → (stand c).failed ≡ None → Passed taken stand a c
+pub passed_one : {S : Type 0} {taken : S → List Tok → Type 0} {state : S → TokensState} {a b c : S} (x : Tok) → Passed taken state a b → TakesOne taken state b c x
+    → kind_of x ≢ kind.BeginArray → kind_of x ≢ kind.BeginObject → kind_of x ≢ kind.EndArray → kind_of x ≢ kind.EndObject → (state c).failed ≡ None → Passed taken state a c
 passed_one null_token w r f g i j u = passed_tree w (scalar null null_token refl refl refl refl r) u
 passed_one (boolean_token b) w r f g i j u = passed_tree w (scalar (boolean b) (boolean_token b) refl refl refl refl r) u
 passed_one (num_token l) w r f g i j u = passed_tree w (scalar (num l) (num_token l) refl refl refl refl r) u
@@ -197,28 +197,28 @@ passed_one (end object) w r f g i j u = absurd (j refl)
 passed_one (key_token s) w r f g i j u = passed_key w r u
 
 -- a container, whole
-pub whole_container : {S : Type 0} {taken : S → List Tok → Type 0} {stand : S → TokensState} {a b c : S} (x : Tok) → (kind_of x ≡ kind.BeginArray) ⊎ (kind_of x ≡ kind.BeginObject) → TakesOne taken stand a b x → Leaves taken stand b c
-    → (t : Tree) × TakesTree taken stand a c t
-whole_container {taken = taken} {stand = stand} {a = a} {b = b} {c = c} (begin array) e r l =
+pub whole_container : {S : Type 0} {taken : S → List Tok → Type 0} {state : S → TokensState} {a b c : S} (x : Tok) → (kind_of x ≡ kind.BeginArray) ⊎ (kind_of x ≡ kind.BeginObject) → TakesOne taken state a b x → Leaves taken state b c
+    → (t : Tree) × TakesTree taken state a c t
+whole_container {taken = taken} {state = state} {a = a} {b = b} {c = c} (begin array) e r l =
     let m = r.moves in
     let n = l.moves in
-    let i : (ts : Trees) × (l.rest ≡ trees_tokens ts ++ end array ∷ []) = subst (λ (p : TokenState). Rest p l.rest) m.spot l.is_rest in (
+    let i : (ts : Trees) × (l.rest ≡ trees_tokens ts ++ end array ∷ []) = subst (λ (p : TokenState). RestOfContainer p l.rest) m.expected l.is_rest in (
       list i.0,
       record {
         takes = subst (λ (ys : List Tok). TakesTokens taken a (begin array ∷ ys) c) i.1 (joins r.takes l.takes);
-        moves = record { input = n.input ∙ m.input; spot = n.spot ∙ ap (λ (p : TokenState). around p) m.spot; told = n.told; left = omega (arith, m.left, n.left) };
-        as_told = r.as_told;
+        moves = record { input = n.input ∙ m.input; expected = n.expected ∙ ap (λ (p : TokenState). around p) m.expected; peeked = n.peeked; left = omega (arith, m.left, n.left) };
+        as_peeked = r.as_peeked;
       },
     )
-whole_container {taken = taken} {stand = stand} {a = a} {b = b} {c = c} (begin object) e r l =
+whole_container {taken = taken} {state = state} {a = a} {b = b} {c = c} (begin object) e r l =
     let m = r.moves in
     let n = l.moves in
-    let i : (ps : Pairs) × (l.rest ≡ pairs_tokens ps ++ end object ∷ []) = subst (λ (p : TokenState). Rest p l.rest) m.spot l.is_rest in (
+    let i : (ps : Pairs) × (l.rest ≡ pairs_tokens ps ++ end object ∷ []) = subst (λ (p : TokenState). RestOfContainer p l.rest) m.expected l.is_rest in (
       pairs i.0,
       record {
         takes = subst (λ (ys : List Tok). TakesTokens taken a (begin object ∷ ys) c) i.1 (joins r.takes l.takes);
-        moves = record { input = n.input ∙ m.input; spot = n.spot ∙ ap (λ (p : TokenState). around p) m.spot; told = n.told; left = omega (arith, m.left, n.left) };
-        as_told = r.as_told;
+        moves = record { input = n.input ∙ m.input; expected = n.expected ∙ ap (λ (p : TokenState). around p) m.expected; peeked = n.peeked; left = omega (arith, m.left, n.left) };
+        as_peeked = r.as_peeked;
       },
     )
 whole_container null_token (inl e) r l = absurd (cc)
@@ -254,7 +254,7 @@ end_object element_or_end c m = absurd m
 end_object name_or_end c m = (no_pairs, refl)
 end_object nothing c m = absurd m
 
-end_rest : (q : TokenState) (x : Tok) → (kind_of x ≡ kind.EndArray) ⊎ (kind_of x ≡ kind.EndObject) → KindMayCome q (kind_of x) → Rest q (x ∷ []) × (after_token q x ≡ around q)
+end_rest : (q : TokenState) (x : Tok) → (kind_of x ≡ kind.EndArray) ⊎ (kind_of x ≡ kind.EndObject) → KindMayCome q (kind_of x) → RestOfContainer q (x ∷ []) × (after_token q x ≡ around q)
 end_rest q (end array) e m = (end_array q.expected q.opened m, refl)
 end_rest q (end object) e m = (end_object q.expected q.opened m, refl)
 end_rest q null_token (inl e) m = absurd (cc)
@@ -277,17 +277,17 @@ end_rest q (begin object) (inr e) m = absurd (cc)
 end_rest q (key_token s) (inl e) m = absurd (cc)
 end_rest q (key_token s) (inr e) m = absurd (cc)
 
-pub passed_end : {S : Type 0} {taken : S → List Tok → Type 0} {stand : S → TokensState} {a b c : S} (x : Tok) → (kind_of x ≡ kind.EndArray) ⊎ (kind_of x ≡ kind.EndObject) → Passed taken stand a b → TakesOne taken stand b c x
-    → Leaves taken stand a c
-passed_end {taken = taken} {stand = stand} {a = a} {b = b} {c = c} x e w r =
+pub passed_end : {S : Type 0} {taken : S → List Tok → Type 0} {state : S → TokensState} {a b c : S} (x : Tok) → (kind_of x ≡ kind.EndArray) ⊎ (kind_of x ≡ kind.EndObject) → Passed taken state a b → TakesOne taken state b c x
+    → Leaves taken state a c
+passed_end {taken = taken} {state = state} {a = a} {b = b} {c = c} x e w r =
     let m = r.moves in
-    let h = end_rest (stand b).spot x e r.as_told.may in
+    let h = end_rest (state b).expected x e r.as_peeked.may in
     record {
       rest = w.xs ++ x ∷ [];
       is_rest = rest_of w.path (x ∷ []) h.0;
-      as_told = λ k f. first_append w.xs (x ∷ []) (stand b).told k (w.first k f) (λ i. r.as_told.told k i);
+      as_peeked = λ k f. first_append w.xs (x ∷ []) (state b).peeked k (w.first k f) (λ i. r.as_peeked.peeked k i);
       takes = joins w.takes r.takes;
-      moves = record { input = m.input ∙ w.input; spot = m.spot ∙ h.1 ∙ around_same w.path; told = m.told; left = omega (arith, w.left, m.left) };
+      moves = record { input = m.input ∙ w.input; expected = m.expected ∙ h.1 ∙ around_same w.path; peeked = m.peeked; left = omega (arith, w.left, m.left) };
     }
 
 -- ---- one value
@@ -307,7 +307,7 @@ wants p o k w m t = by p.expected w m
     value_only kind.BeginObject m = refl
     value_only kind.EndObject m = absurd m
 
-    as_told : (o : Option TokenKind) → ToldValue o → ((j : TokenKind) → o ≡ Some j → k ≡ j) → begins_value k ≡ true
+    as_told : (o : Option TokenKind) → IsPeekedValue o → ((j : TokenKind) → o ≡ Some j → k ≡ j) → begins_value k ≡ true
     as_told None w t = absurd w
     as_told (Some j) w t = subst (λ (i : TokenKind). begins_value i ≡ true) (sym (t j refl)) w
 
@@ -317,8 +317,8 @@ wants p o k w m t = by p.expected w m
     by name_or_end w m = absurd w
     by nothing w m = absurd w
 
-pub whole_scalar : {S : Type 0} {taken : S → List Tok → Type 0} {stand : S → TokensState} {a c : S} (x : Tok) → TakesOne taken stand a c x
-    → kind_of x ≢ kind.BeginArray → kind_of x ≢ kind.BeginObject → begins_value (kind_of x) ≡ true → (t : Tree) × TakesTree taken stand a c t
+pub whole_scalar : {S : Type 0} {taken : S → List Tok → Type 0} {state : S → TokensState} {a c : S} (x : Tok) → TakesOne taken state a c x
+    → kind_of x ≢ kind.BeginArray → kind_of x ≢ kind.BeginObject → begins_value (kind_of x) ≡ true → (t : Tree) × TakesTree taken state a c t
 whole_scalar null_token r f g b = (null, scalar null null_token refl refl refl refl r)
 whole_scalar (boolean_token v) r f g b = (boolean v, scalar (boolean v) (boolean_token v) refl refl refl refl r)
 whole_scalar (num_token l) r f g b = (num l, scalar (num l) (num_token l) refl refl refl refl r)

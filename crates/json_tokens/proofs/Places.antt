@@ -10,8 +10,8 @@ use Rattle.json_grammar.specs.TokenStates.{TokenState, a_value, initial_state, s
 use Rattle.json_tokens.specs.declared.token.TokenKind.{TokenKind}
 use Rattle.json_tokens.specs.declared.token.TokenKind.TheVariants as kind
 use Rattle.json_tokens.specs.Kinds.{kind_of, number_kind}
-use Rattle.json_tokens.specs.Spots.{KindMayCome, begins_value}
-use Rattle.json_tokens.specs.Text.{value_spot, before}
+use Rattle.json_tokens.specs.ExpectedTokens.{KindMayCome, begins_value}
+use Rattle.json_tokens.specs.Text.{state_before_value, before}
 
 -- ---- kinds
 
@@ -75,7 +75,7 @@ reached ts a = reached_from initial_state ts first a
 
 -- ---- the state before a token
 
-value_before : (s : TokenState) → Reached s → ValueMayCome s.expected → value_spot s.opened ≡ s
+value_before : (s : TokenState) → Reached s → ValueMayCome s.expected → state_before_value s.opened ≡ s
 value_before s first v = refl
 value_before s (between []) v = absurd v
 value_before s (between (array ∷ c)) v = refl

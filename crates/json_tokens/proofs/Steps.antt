@@ -7,40 +7,40 @@ use Rattle.json_grammar.specs.declared.Kind.TheVariants.{Array as array, Object 
 use Rattle.json_tokens.specs.Kinds.{kind_of, first_kind, number_kind}
 use Rattle.json_number.specs.Integers.{integer_in}
 use Rattle.json_grammar.specs.TokenStates.{TokenState, after_token, state_after_value}
-use Rattle.json_tokens.specs.Spots.{KindMayCome}
-use Rattle.json_tokens.specs.Stand.{TokensState, TakesTokens, Peeks, Moves, AsTold, TakesTree, TakesOne}
+use Rattle.json_tokens.specs.ExpectedTokens.{KindMayCome}
+use Rattle.json_tokens.specs.TokensStates.{TokensState, TakesTokens, Peeks, Moves, MatchesPeek, TakesTree, TakesOne}
 
 pub joins : {S : Type 0} {taken : S → List Tok → Type 0} {a b c : S} {xs ys : List Tok} → TakesTokens taken a xs b → TakesTokens taken b ys c → TakesTokens taken a (xs ++ ys) c
 joins {taken = taken} {c = c} {xs = xs} {ys = ys} h k = record { on = λ ts p. subst (λ (zs : List Tok). taken c zs) (append_assoc ts xs ys) (k.on (ts ++ xs) (h.on ts p)) }
 
-pub told_before : {a b : TokensState} {k j : TokenKind} → Peeks a b k → AsTold b j → AsTold a j
-told_before {a = a} {k = k} {j = j} p q = let e : j ≡ k = q.told k p.told in record {
-  may = subst (λ (i : TokenKind). KindMayCome a.spot i) (sym e) p.may;
-  told = λ i h. e ∙ p.again i h;
+pub peeked_before : {a b : TokensState} {k j : TokenKind} → Peeks a b k → MatchesPeek b j → MatchesPeek a j
+peeked_before {a = a} {k = k} {j = j} p q = let e : j ≡ k = q.peeked k p.peeked in record {
+  may = subst (λ (i : TokenKind). KindMayCome a.expected i) (sym e) p.may;
+  peeked = λ i h. e ∙ p.again i h;
 }
 
 pub peek_moves : {a b c : TokensState} {k : TokenKind} {p : TokenState} → Peeks a b k → Moves b c p → Moves a c p
-peek_moves h m = record { input = m.input ∙ h.input; spot = m.spot; told = m.told; left = omega (arith, h.left, m.left) }
+peek_moves h m = record { input = m.input ∙ h.input; expected = m.expected; peeked = m.peeked; left = omega (arith, h.left, m.left) }
 
 -- a kind was peeked, and then a tree was taken
-pub peek_tree : {S : Type 0} {taken : S → List Tok → Type 0} {stand : S → TokensState} {a b c : S} {k : TokenKind} {t : Tree}
-    → Peeks (stand a) (stand b) k → TakesTokens taken a [] b → TakesTree taken stand b c t → TakesTree taken stand a c t
-peek_tree {taken = taken} {stand = stand} {a = a} {b = b} {c = c} {t = t} h z r = record {
+pub peek_tree : {S : Type 0} {taken : S → List Tok → Type 0} {state : S → TokensState} {a b c : S} {k : TokenKind} {t : Tree}
+    → Peeks (state a) (state b) k → TakesTokens taken a [] b → TakesTree taken state b c t → TakesTree taken state a c t
+peek_tree {taken = taken} {state = state} {a = a} {b = b} {c = c} {t = t} h z r = record {
   takes = joins z r.takes;
-  moves = subst (λ (p : TokenState). Moves (stand a) (stand c) (state_after_value p)) h.spot (peek_moves h r.moves);
-  as_told = told_before h r.as_told;
+  moves = subst (λ (p : TokenState). Moves (state a) (state c) (state_after_value p)) h.expected (peek_moves h r.moves);
+  as_peeked = peeked_before h r.as_peeked;
 }
 
 -- a tree of one token
-pub scalar : {S : Type 0} {taken : S → List Tok → Type 0} {stand : S → TokensState} {b c : S} {x : Tok} (t : Tree) (y : Tok)
-    → x ≡ y → tokens t ≡ y ∷ [] → kind_of y ≡ first_kind t → after_token (stand b).spot y ≡ state_after_value (stand b).spot
-    → TakesOne taken stand b c x → TakesTree taken stand b c t
-scalar {taken = taken} {stand = stand} {b = b} {c = c} t y i e k p q =
-    let r = subst (λ (z : Tok). TakesOne taken stand b c z) i q in
+pub scalar : {S : Type 0} {taken : S → List Tok → Type 0} {state : S → TokensState} {b c : S} {x : Tok} (t : Tree) (y : Tok)
+    → x ≡ y → tokens t ≡ y ∷ [] → kind_of y ≡ first_kind t → after_token (state b).expected y ≡ state_after_value (state b).expected
+    → TakesOne taken state b c x → TakesTree taken state b c t
+scalar {taken = taken} {state = state} {b = b} {c = c} t y i e k p q =
+    let r = subst (λ (z : Tok). TakesOne taken state b c z) i q in
     record {
       takes = subst (λ (xs : List Tok). TakesTokens taken b xs c) (sym e) r.takes;
-      moves = subst (λ (q : TokenState). Moves (stand b) (stand c) q) p r.moves;
-      as_told = subst (λ (j : TokenKind). AsTold (stand b) j) k r.as_told;
+      moves = subst (λ (q : TokenState). Moves (state b) (state c) q) p r.moves;
+      as_peeked = subst (λ (j : TokenKind). MatchesPeek (state b) j) k r.as_peeked;
     }
 
 -- by its kind

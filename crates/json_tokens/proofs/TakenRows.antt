@@ -2,7 +2,7 @@
 use Rattle.std.proofs.Common.{◌≡◌, ◌∙◌, ℕ, List, [], ◌∷◌, ◌++◌, Bool, Option, Some, None, inl, refl, sym, ap, subst, append_assoc}
 use Rattle.std.proofs.lemmas.List.{append_cancel_right}
 use Rattle.json_grammar.specs.declared.Kind.{Kind}
-use Rattle.json_grammar.specs.declared.Spot.{Spot as Place}
+use Rattle.json_grammar.specs.declared.ExpectedPart.{ExpectedPart as Place}
 use Rattle.json_grammar.specs.Given.{LastEnds}
 use Rattle.json_grammar.specs.Grammar.{is_text}
 use Rattle.json_grammar.specs.Place.{reading}
@@ -14,7 +14,7 @@ use Rattle.json_grammar.proofs.Reading.{events_begin, one_place}
 use Rattle.json_text.specs.declared.event.Event.{Event}
 use Rattle.json_text.specs.Parsing.{ParserState, HasGiven}
 use Rattle.json_tokens.specs.Text.{TextTokensState, TakenBefore, text_taken}
-use Rattle.json_tokens.specs.Values.{value_state, value_taken, rest_of}
+use Rattle.json_tokens.specs.Values.{value_state, value_taken, rest_of_tokens}
 use Rattle.json_tokens.specs.declared.value_tokens.ValueTokens.{ValueTokens}
 use Rattle.json_tokens.proofs.Events.{given_reading}
 use Rattle.json_doc.proofs.ValueRecording.{means_one}
@@ -34,7 +34,7 @@ reading_begins lossy b c w ts h =
     (v.0, e.0, e.1)
 
 given_begins : (p : ParserState) (ts : List Tok) → HasGiven p ts → (t : Tree) × (rest : List Tok) × (tokens t ≡ ts ++ rest)
-given_begins p ts h = reading_begins p.lossy _ p.open_kinds p.spot ts (given_reading p ts h)
+given_begins p ts h = reading_begins p.lossy _ p.open_kinds p.expected ts (given_reading p ts h)
 
 no_last : (x : Tok) (ts : List Tok) (y : Tok) (us : List Tok) → x ∷ ts ≡ y ∷ us → (x ≡ y) × (ts ≡ us)
 no_last x ts y us e = (let h : x ≡ y = cc in h, let h : ts ≡ us = cc in h)
@@ -71,7 +71,7 @@ text_begins s ts h = taken_begins s.ahead s.parser ts h
 -- ---- a value
 
 pub value_one : (s : ValueTokens) (ts us : List Tok) → value_taken s ts → value_taken s us → ts ≡ us
-value_one s ts us h k = append_cancel_right ts us (rest_of (value_state s)) (h ∙ sym k)
+value_one s ts us h k = append_cancel_right ts us (rest_of_tokens (value_state s)) (h ∙ sym k)
 
 pub value_begins : (s : ValueTokens) (ts : List Tok) → value_taken s ts → (t : Tree) × (rest : List Tok) × (tokens t ≡ ts ++ rest)
-value_begins s ts h = ((value_state s).tree, rest_of (value_state s), sym h)
+value_begins s ts h = ((value_state s).tree, rest_of_tokens (value_state s), sym h)

@@ -15,8 +15,8 @@ use Rattle.json_text.specs.declared.event.Event.TheVariants as event
 use Rattle.json_tokens.specs.Kinds.{kind_of}
 use Rattle.json_grammar.specs.Place.{outside}
 use Rattle.json_grammar.specs.TokenStates.{ValueMayCome, expected_before_value}
-use Rattle.json_tokens.specs.Spots.{KindMayCome}
-use Rattle.json_tokens.specs.Stand.{TakesTokens, Peeks, TakesOne, TakesText}
+use Rattle.json_tokens.specs.ExpectedTokens.{KindMayCome}
+use Rattle.json_tokens.specs.TokensStates.{TakesTokens, Peeks, TakesOne, TakesText}
 use Rattle.json_tokens.specs.Text.{TextTokensState, TakenBefore, before, event_kind, text_taken, text_tokens_state}
 use Rattle.json_tokens.proofs.Events.{same_kind}
 use Rattle.json_tokens.proofs.Steps.{is_begin_object, scalar, is_begin as is_begin_array}
@@ -43,11 +43,11 @@ may_before kind.Raw c = value_there c
 may_before kind.Text c = value_there c
 
 -- it is peeked, and nothing is taken
-told_waiting : (p : ParserState) (f : Option Error) (e : Event) → Peeks (text_tokens_state (waits p f e)) (text_tokens_state (waits p f e)) (event_kind e)
-told_waiting p f e = record {
+peeked_waiting : (p : ParserState) (f : Option Error) (e : Event) → Peeks (text_tokens_state (waits p f e)) (text_tokens_state (waits p f e)) (event_kind e)
+peeked_waiting p f e = record {
   input = refl;
-  spot = refl;
-  told = refl;
+  expected = refl;
+  peeked = refl;
   left = omega arith;
   may = may_before (event_kind e) p.open_kinds;
   again = λ j h. cc;
@@ -59,7 +59,7 @@ none_taken p f e = record { on = λ ts t. subst (TakenBefore (Some e) p) (sym (a
 -- it is taken
 waiting_taken : (p : ParserState) (f : Option Error) (e : Event) → (ts : List Tok) × TakenBefore (Some e) p ts
     → (x : Tok) × Means e x × TakesOne text_taken text_tokens_state (waits p f e) (record { parser = p; ahead = None; failed = f }) x
-waiting_taken p f e i = takes_next (waits p f e) p f e (event_kind e) i (told_waiting p f e) (none_taken p f e)
+waiting_taken p f e i = takes_next (waits p f e) p f e (event_kind e) i (peeked_waiting p f e) (none_taken p f e)
 
 opens : (k : Kind) (x : Tok) → kind_of x ≡ kind_of (begin k) → x ≡ begin k
 opens array x e = is_begin_array x e

@@ -1,8 +1,8 @@
 pub mod Pieces
 pub mod Kinds
 pub mod Refusals
-pub mod Spots
-pub mod Stand
+pub mod ExpectedTokens
+pub mod TokensStates
 pub mod Text
 pub mod Values
 pub mod TextValues

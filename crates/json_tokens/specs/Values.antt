@@ -5,10 +5,10 @@ use Rattle.json_grammar.specs.declared.Kind.TheVariants.{Array as array, Object 
 use Rattle.json_grammar.specs.Tree.{Tree, Token as Tok, tokens, trees_tokens, pairs_tokens, list_trees, list_pairs, end}
 use Rattle.json_io.specs.Errors.{no_memory}
 use Rattle.json_value.specs.Seen.{seen}
-use Rattle.json_value.specs.Left.{elements_left, members_left, elements_sights_left}
+use Rattle.json_value.specs.Left.{elements_left, members_left, elements_targets_left}
 use Rattle.json_value.specs.Places.{places_in}
-use Rattle.json_value.specs.Sights.{Sight, sight_of, sight_kept, sight_places}
-use Rattle.json_value.specs.Spots.{spot_of}
+use Rattle.json_value.specs.ViewTargets.{ViewTarget, view_target, target_value_position, target_places}
+use Rattle.json_value.specs.Positions.{doc_position}
 use Rattle.json_value.specs.declared.value.Value.{Value}
 use Rattle.json_value.specs.declared.view.View.{View}
 use Rattle.json_tokens.specs.declared.level.Level.{Level}
@@ -18,7 +18,7 @@ use Rattle.json_tokens.specs.declared.token.TokenKind.TheVariants as kind
 use Rattle.json_tokens.specs.declared.value_tokens.ValueTokens.{ValueTokens}
 use Rattle.json_tokens.specs.Kinds.{kind_of}
 use Rattle.json_grammar.specs.TokenStates.{TokenState, a_value, initial_state, state_in}
-use Rattle.json_tokens.specs.Stand.{TokensState, over_tree}
+use Rattle.json_tokens.specs.TokensStates.{TokensState, over_tree}
 
 -- what is left of an open container: its elements, or its members
 pub data Left : Type 0 where
@@ -54,12 +54,12 @@ next_tokens None = []
 next_tokens (Some t) = tokens t
 
 -- the state within open containers, by whether a value of the innermost is next
-abbrev pub spot_in_levels : List Left → Option Tree → TokenState
-spot_in_levels [] None = state_in []
-spot_in_levels [] (Some t) = initial_state
-spot_in_levels (elements_of ts ∷ ls) o = state_in (array ∷ map kind_left ls)
-spot_in_levels (members_of ps ∷ ls) None = state_in (object ∷ map kind_left ls)
-spot_in_levels (members_of ps ∷ ls) (Some t) = record { opened = object ∷ map kind_left ls; expected = a_value }
+abbrev pub state_in_levels : List Left → Option Tree → TokenState
+state_in_levels [] None = state_in []
+state_in_levels [] (Some t) = initial_state
+state_in_levels (elements_of ts ∷ ls) o = state_in (array ∷ map kind_left ls)
+state_in_levels (members_of ps ∷ ls) None = state_in (object ∷ map kind_left ls)
+state_in_levels (members_of ps ∷ ls) (Some t) = record { opened = object ∷ map kind_left ls; expected = a_value }
 
 -- a value whose tokens are taken
 pub record ValueState : Type 0 where
@@ -69,7 +69,7 @@ pub record ValueState : Type 0 where
   -- what the open containers have left after it, the innermost first
   pub levels : List Left
   -- whether the kind of the next token was peeked, and whether memory ran out
-  pub told : Bool
+  pub peeked : Bool
   pub failed : Bool
 
 abbrev pub value_state : ValueTokens → ValueState
@@ -77,27 +77,27 @@ value_state s = record {
   tree = seen s.whole;
   next = option_map seen s.next;
   levels = left_after_opening s.inner (opened_in [] s.outer.items);
-  told = s.told;
+  peeked = s.peeked;
   failed = s.failed;
 }
 
 -- the tokens that are left
-abbrev pub rest_of : ValueState → List Tok
-rest_of s = next_tokens s.next ++ open_tokens s.levels
+abbrev pub rest_of_tokens : ValueState → List Tok
+rest_of_tokens s = next_tokens s.next ++ open_tokens s.levels
 
 abbrev pub head_kind : List Tok → Option TokenKind
 head_kind [] = None
 head_kind (x ∷ xs) = Some (kind_of x)
 
 abbrev pub state_taken : ValueState → List Tok → Type 0
-state_taken s ts = ts ++ rest_of s ≡ tokens s.tree
+state_taken s ts = ts ++ rest_of_tokens s ≡ tokens s.tree
 
-abbrev pub state_stand : ValueState → TokensState
-state_stand s = record {
+abbrev pub tokens_state_of : ValueState → TokensState
+tokens_state_of s = record {
   input = over_tree s.tree;
-  spot = spot_in_levels s.levels s.next;
-  told = if s.told then head_kind (rest_of s) else None;
-  left = length (rest_of s);
+  expected = state_in_levels s.levels s.next;
+  peeked = if s.peeked then head_kind (rest_of_tokens s) else None;
+  left = length (rest_of_tokens s);
   failed = if s.failed then Some no_memory else None;
 }
 
@@ -105,34 +105,34 @@ state_stand s = record {
 abbrev pub value_taken : ValueTokens → List Tok → Type 0
 value_taken s ts = state_taken (value_state s) ts
 
-abbrev pub value_stand : ValueTokens → TokensState
-value_stand s = state_stand (value_state s)
+abbrev pub value_tokens_state : ValueTokens → TokensState
+value_tokens_state s = tokens_state_of (value_state s)
 
 -- ---- values that are returned
 
 -- what the views of the elements that an array has left are of
-abbrev pub element_sights : Level → List Sight
-element_sights level.Root = []
-element_sights (level.List s) = elements_sights_left s
-element_sights (level.Pairs s) = []
+abbrev pub element_targets : Level → List ViewTarget
+element_targets level.Root = []
+element_targets (level.List s) = elements_targets_left s
+element_targets (level.Pairs s) = []
 
 -- what the view of the next value is of
-abbrev pub next_sight : Option View → Level → Option Sight
-next_sight (Some v) l = Some (sight_of v)
-next_sight None l = slice_get (element_sights l) 0
+abbrev pub next_target : Option View → Level → Option ViewTarget
+next_target (Some v) l = Some (view_target v)
+next_target None l = slice_get (element_targets l) 0
 
 -- a value made of what is seen: where that is a place of the document of a value it is read from
 -- there, and of a whole value each part has the position of its own
-pub record IsMadeOf (s : Sight) (v : Value) : Type 0 where
-  pub spot : spot_of v ≡ sight_kept s
-  pub parts : IfSome (sight_places s) (λ places. places_in v ≡ places)
+pub record IsMadeOf (s : ViewTarget) (v : Value) : Type 0 where
+  pub expected : doc_position v ≡ target_value_position s
+  pub parts : IfSome (target_places s) (λ places. places_in v ≡ places)
 
 abbrev pub value_placed : ValueTokens → Value → Type 0
-value_placed s v = IfSome (next_sight s.next s.inner) (λ g. IsMadeOf g v)
+value_placed s v = IfSome (next_target s.next s.inner) (λ g. IsMadeOf g v)
 
 -- no token of the tree was peeked, taken or refused
 abbrev pub at_begin : Tree → ValueState
-at_begin t = record { tree = t; next = Some t; levels = []; told = false; failed = false }
+at_begin t = record { tree = t; next = Some t; levels = []; peeked = false; failed = false }
 
 -- ---- steps
 
@@ -161,18 +161,18 @@ FrontIs (members_of (p ∷ ps) ∷ c) k = k ≡ kind.Key
 -- the next element, if one is left, was reached; nothing else changed
 pub record SettlesNext (a b : ValueState) : Type 0 where
   pub tree : b.tree ≡ a.tree
-  pub rest : rest_of b ≡ rest_of a
-  pub spot : spot_in_levels b.levels b.next ≡ spot_in_levels a.levels a.next
+  pub rest : rest_of_tokens b ≡ rest_of_tokens a
+  pub expected : state_in_levels b.levels b.next ≡ state_in_levels a.levels a.next
   pub reached : b.next ≡ None → NoElement b.levels
-  pub told : b.told ≡ a.told
+  pub peeked : b.peeked ≡ a.peeked
   pub failed : b.failed ≡ a.failed
 
 -- the tokens xs were taken, and the state is p
 pub record TakesTokensTo (a b : ValueState) (xs : List Tok) (p : TokenState) : Type 0 where
   pub tree : b.tree ≡ a.tree
-  pub rest : rest_of a ≡ xs ++ rest_of b
-  pub spot : spot_in_levels b.levels b.next ≡ p
-  pub told : b.told ≡ false
+  pub rest : rest_of_tokens a ≡ xs ++ rest_of_tokens b
+  pub expected : state_in_levels b.levels b.next ≡ p
+  pub peeked : b.peeked ≡ false
   pub failed : b.failed ≡ a.failed
 
 -- memory ran out

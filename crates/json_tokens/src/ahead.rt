@@ -9,13 +9,14 @@ ghost use Rattle.json_number.specs.Numbers.{value_of};
 ghost use Rattle.json_tokens.specs.Pieces.{Says};
 ghost use Rattle.json_tokens.specs.Kinds.{DenotesToken};
 ghost use Rattle.json_grammar.specs.TokenStates.{state_in};
-ghost use Rattle.json_tokens.specs.Text.{event_kind as spec_event_kind, event_integer as spec_event_integer, parser_spot, ReadsAhead, HasFault};
+ghost use Rattle.json_tokens.specs.Text.{event_kind as spec_event_kind, event_integer as spec_event_integer, parser_state, ReadsAhead, HasFault};
 ghost use Rattle.json_doc.specs.Reading.{EventIsNumber};
 
 use crate::piece::Piece;
 use crate::token::{Token, TokenKind, TokenOf};
+use json_io::Error;
 use json_number::{Number, integer_of};
-use json_text::{Error, Event, Parser, Span};
+use json_text::{Event, Parser, Span};
 
 /// An event that was read and not taken yet.
 #[derive(Clone, Copy)]
@@ -25,7 +26,7 @@ pub(crate) struct Ahead<'a> {
     pub(crate) kind: TokenKind,
     /// Of a number, its integer by value.
     pub(crate) number: Option<Number>,
-    ghost told: { kind ≡ spec_event_kind event },
+    ghost peeked: { kind ≡ spec_event_kind event },
     ghost valued: { option_map value_of number ≡ spec_event_integer event },
 }
 
@@ -33,7 +34,7 @@ pub(crate) struct Ahead<'a> {
 #[inline(always)]
 pub(crate) fn read_ahead<'a>(parser: &mut Parser<'a>) -> std::result::Result<Event<'a>, Error>
     requires given { (ts : List Tok) × HasGiven parser.old ts }
-    requires whole { ¬ (parser_spot parser.old ≡ state_in []) }
+    requires whole { ¬ (parser_state parser.old ≡ state_in []) }
     requires fresh { parser.old.failure ≡ None }
     ensures ok { IfOk result (λ e. ReadsAhead parser.old e parser.new) }
     ensures read { OnOk result (IsWhole parser.new → HasRead parser.new) }
@@ -78,8 +79,8 @@ impl<'a> Ahead<'a> {
                 Some(number) => Token::Int(number),
                 None => Token::Raw(literal),
             },
-            Event::Str(span) => Token::Text(piece(span)),
-            Event::Key(span) => Token::Key(piece(span)),
+            Event::Str(span) => Token::Text(plain_piece(span)),
+            Event::Key(span) => Token::Key(plain_piece(span)),
             Event::BeginArray => Token::BeginArray,
             Event::EndArray => Token::EndArray,
             Event::BeginObject => Token::BeginObject,
@@ -124,7 +125,7 @@ fn event_kind(event: Event<'_>, number: Option<Number>) -> TokenKind
 
 /// What a span spells.
 #[inline(always)]
-pub(crate) fn piece<'a>(span: Span<'a>) -> Piece<&'a str>
+pub(crate) fn plain_piece<'a>(span: Span<'a>) -> Piece<&'a str>
     ensures { (s : List ℕ) → chars span.entry.lossy s span.entry.raw.now
         → Says s result.escaped result.text.now }
 {

@@ -2,8 +2,8 @@
 ghost use Rattle.std.specs.Prelude.{◌≡◌, ◌∷◌, List, option_map, slice_get};
 ghost use Rattle.json_grammar.specs.Tree.{list, pairs, trees_list, pairs_list, Trees, Pairs};
 ghost use Rattle.json_value.specs.Seen.{seen, member_seen};
-ghost use Rattle.json_value.specs.Sights.{sight_of};
-ghost use Rattle.json_tokens.specs.Values.{Left, left_after_opening, element_sights, elements_of, members_of, PullsElement, PullsMember, FrontIs};
+ghost use Rattle.json_value.specs.ViewTargets.{view_target};
+ghost use Rattle.json_tokens.specs.Values.{Left, left_after_opening, element_targets, elements_of, members_of, PullsElement, PullsMember, FrontIs};
 
 use crate::token::TokenKind;
 use json_value::{ArrayIter, Iter, View};
@@ -44,7 +44,7 @@ impl<'a> Level<'a> {
     pub(crate) fn element(&mut self) -> Option<View<'a>>
         ensures tree { (c : List Left) → PullsElement (left_after_opening self.old c)
             (option_map seen result) (left_after_opening self.new c) }
-        ensures sight { option_map sight_of result ≡ slice_get (element_sights self.old) 0 }
+        ensures target { option_map view_target result ≡ slice_get (element_targets self.old) 0 }
     {
         match self {
             Level::List(elements) => elements.next(),

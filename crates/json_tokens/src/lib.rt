@@ -12,8 +12,8 @@
 #![tactic(auto)]
 
 mod ahead;
+mod input_str;
 pub mod laws;
-mod lent;
 mod level;
 mod packed_value;
 mod piece;
@@ -24,9 +24,9 @@ mod tokens;
 mod value_tokens;
 mod view_tokens;
 
-pub use lent::Lent;
+pub use input_str::InputStr;
 pub use piece::{Piece, lend};
-pub use refusals::{is_refusal, refusal};
+pub use refusals::{error_without_place, is_refusal};
 pub use text_tokens::TextTokens;
 pub use token::{Token, TokenKind, TokenOf, begin_kind};
 pub use tokens::Tokens;

@@ -7,8 +7,9 @@ ghost use Rattle.json_value.specs.Denotes.{tree_of};
 ghost use Rattle.json_tokens.specs.Text.{TextFails};
 ghost use Rattle.json_tokens.specs.TextValues.{IsPackedAtRoot};
 
-use json_doc::read_value;
-use json_text::{Event, Parser, Result};
+use json_doc::read_following_value;
+use json_io::Result;
+use json_text::{Event, Parser};
 use json_value::Value;
 use std::alloc::Global;
 
@@ -28,6 +29,6 @@ pub(crate) fn packed_value<'a>(
     ensures err { IfErr result (TextFails parser.new) }
     ensures given { (ts : List Tok) × HasGiven parser.new ts }
 {
-    let doc = read_value(alloc, parser, first)?;
+    let doc = read_following_value(alloc, parser, first)?;
     Value::from_place(alloc, &doc, doc.root())
 }

@@ -5,8 +5,9 @@ ghost use Rattle.json_io.specs.Errors.{OnlyNoMemory};
 ghost use Rattle.json_text.specs.Spelled.{NoEscape};
 ghost use Rattle.json_tokens.specs.Pieces.{Says};
 
-use crate::lent::Lent;
-use json_text::{Error, ErrorCode, Place, Result, Span};
+use crate::input_str::InputStr;
+use json_io::{Error, ErrorCode, Place, Result};
+use json_text::Span;
 use std::alloc::{AllocError, Global};
 use std::borrow::CowStr;
 use std::str::from_utf8_unchecked;
@@ -19,15 +20,15 @@ use std::str::from_utf8_unchecked;
 /// assert_eq!(rt; piece.lent(), Some("Ada"));
 /// assert_eq!(rt; piece.copy(alloc)?.as_str(), "Ada");
 /// ```
-pub struct Piece<S: Lent> {
+pub struct Piece<S: InputStr> {
     pub text: S,
     /// Whether its escapes are read in the lossy mode; `None` if it has none.
     pub escaped: Option<bool>,
     pub ghost spells: { ∥ ((s : List ℕ) × Says s escaped (S.bytes text)) ∥₁ },
-    pub ghost told: { IsSome escaped → ¬ (NoEscape (S.bytes text)) },
+    pub ghost marked: { IsSome escaped → ¬ (NoEscape (S.bytes text)) },
 }
 
-impl<S: Lent> Clone for Piece<S> {
+impl<S: InputStr> Clone for Piece<S> {
     ghost is_clone = { λ x y. y ≡ x };
 
     ghost is_infallible = { λ _. Unit {0} };
@@ -37,9 +38,9 @@ impl<S: Lent> Clone for Piece<S> {
     }
 }
 
-impl<S: Lent> Copy for Piece<S> {}
+impl<S: InputStr> Copy for Piece<S> {}
 
-impl<S: Lent> Piece<S> {
+impl<S: InputStr> Piece<S> {
     /// Creates a piece of a text without escapes.
     #[inline(always)]
     pub fn plain(text: S) -> Piece<S>

@@ -1,11 +1,11 @@
 // Refusals of a tree.
 ghost use Rattle.std.specs.Prelude.{◌≡◌};
-ghost use Rattle.json_tokens.specs.Refusals.{is_refusal as spec_is_refusal, refusal as spec_refusal};
+ghost use Rattle.json_tokens.specs.Refusals.{is_refusal as spec_is_refusal, error_without_place as spec_refusal};
 
-use json_text::{Error, ErrorCode, Place};
+use json_io::{Error, ErrorCode, Place};
 
 /// Returns the error of this code, without a place.
-pub fn refusal(code: ErrorCode) -> Error
+pub fn error_without_place(code: ErrorCode) -> Error
     ensures { result ≡ spec_refusal code }
 {
     Error {

@@ -4,9 +4,9 @@ ghost use Rattle.json_grammar.specs.Tree.{Tree, Token as Tok, tokens, depth};
 ghost use Rattle.json_value.specs.Denotes.{tree_of};
 ghost use Rattle.json_tokens.specs.Kinds.{DenotesToken};
 ghost use Rattle.json_tokens.specs.TextValues.{IsPackedAtRoot};
-ghost use Rattle.json_tokens.specs.Spots.{IsOpen};
+ghost use Rattle.json_tokens.specs.ExpectedTokens.{IsOpen};
 ghost use Rattle.json_grammar.specs.TokenStates.{state_in};
-ghost use Rattle.json_tokens.specs.Stand.{NotWhole, WantsValue, TakesTokens, Peeks, TakesOne, TakesTree, Leaves, TokensFail, FailsWithTokens, ReturnsAgain};
+ghost use Rattle.json_tokens.specs.TokensStates.{NotWhole, WantsValue, TakesTokens, Peeks, TakesOne, TakesTree, Leaves, TokensFail, FailsWithTokens, ReturnsAgain};
 ghost use Rattle.json_tokens.specs.Text.{IsFreshReader, text_taken, text_tokens_state, TextFails, HasFault, HasReadValue};
 ghost use Rattle.json_tokens.specs.declared.token.TokenKind.{TokenKind as TokenKindOf};
 ghost use Rattle.json_tokens.specs.declared.token.TokenKind.TheVariants as TokenKindAt;
@@ -23,7 +23,8 @@ use crate::piece::Piece;
 use crate::token::{TokenKind, TokenOf};
 use crate::tokens::Tokens;
 use json_grammar::Kind;
-use json_text::{Error, Event, Parser, Result};
+use json_io::{Error, Result};
+use json_text::{Event, Parser};
 use json_value::Value;
 use std::alloc::Global;
 use std::marker::Model;
@@ -144,8 +145,8 @@ impl<'a> TextTokens<'a> {
     /// Returns the offset right after the value, which was taken, in bytes from the beginning of
     /// the text.
     pub fn index(&self) -> usize
-        requires over { (text_tokens_state self.now).spot ≡ state_in [] }
-        requires told { (text_tokens_state self.now).told ≡ None }
+        requires over { (text_tokens_state self.now).expected ≡ state_in [] }
+        requires peeked { (text_tokens_state self.now).peeked ≡ None }
         ensures same { result ≡ self.now.parser.index }
         ensures order { self.now.parser.start ≤ result }
         ensures read { HasReadValue self.now }
@@ -156,8 +157,8 @@ impl<'a> TextTokens<'a> {
     /// Takes the rest of the text, after the value, which was taken. Fails with the fault of the
     /// text if more than whitespace follows.
     pub fn finish(self) -> Result<()>
-        requires over { (text_tokens_state self).spot ≡ state_in [] }
-        requires told { (text_tokens_state self).told ≡ None }
+        requires over { (text_tokens_state self).expected ≡ state_in [] }
+        requires peeked { (text_tokens_state self).peeked ≡ None }
         ensures ok { OnOk result ((ts : List Tok) → text_taken self.entry ts
             → (t : Tree) × is_text self.entry.parser.lossy t (input self.entry.parser)
             × (ts ≡ tokens t) × (depth t ≤ self.entry.parser.limit)) }
@@ -171,7 +172,7 @@ impl<'a> TextTokens<'a> {
 
     /// Returns the error that was returned in place of a token.
     #[inline(always)]
-    fn refusal(&self) -> Error
+    fn kept_error(&self) -> Error
         requires { IsSome self.now.failed }
         ensures { self.now.failed ≡ Some result }
     {
@@ -223,13 +224,13 @@ impl<'a> TextTokens<'a> {
         ensures again { ReturnsAgain self.old.failed result }
     {
         if self.failed.is_some() {
-            return Err(self.refusal());
+            return Err(self.kept_error());
         }
         if let Some(ahead) = self.ahead {
             return Ok(ahead.kind);
         }
         if !self.read() {
-            return Err(self.refusal());
+            return Err(self.kept_error());
         }
         match self.ahead {
             Some(ahead) => Ok(ahead.kind),
@@ -288,7 +289,7 @@ impl<'a> TextTokens<'a> {
 
     /// Takes what is left of the innermost open container.
     fn close(&mut self) -> Result<()>
-        requires { IsOpen (text_tokens_state self.old).spot }
+        requires { IsOpen (text_tokens_state self.old).expected }
         ensures ok { OnOk result (Leaves text_taken text_tokens_state self.old self.new) }
         ensures unfailed { OnOk result (self.new.failed ≡ None) }
         ensures err { FailsWithTokens
@@ -311,7 +312,7 @@ impl<'a> TextTokens<'a> {
     }
 
     /// Takes the tokens of one tree.
-    fn pass(&mut self) -> Result<()>
+    fn skip_tree(&mut self) -> Result<()>
         requires { WantsValue (text_tokens_state self.old) }
         ensures ok { OnOk result ((t : Tree)
             × TakesTree text_taken text_tokens_state self.old self.new t) }
@@ -340,7 +341,7 @@ pub fn text_row_exists(tokens: &TextTokens<'_>)
 impl<'a> Tokens<&'a str> for TextTokens<'a> {
     ghost taken = { text_taken };
 
-    ghost stand = { text_tokens_state };
+    ghost state = { text_tokens_state };
 
     ghost causes = { λ s. HasFault s.parser };
 
@@ -362,7 +363,7 @@ impl<'a> Tokens<&'a str> for TextTokens<'a> {
     }
 
     fn skip(&mut self) -> Result<()> {
-        self.pass()
+        self.skip_tree()
     }
 
     fn leave(&mut self) -> Result<()> {

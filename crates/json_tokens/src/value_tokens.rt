@@ -3,20 +3,20 @@ ghost use Rattle.std.specs.Prelude.{◌≡◌, List, [], ◌∷◌, false, true,
 ghost use Rattle.json_grammar.specs.Tree.{Token as Tok};
 ghost use Rattle.json_io.specs.Errors.{no_memory};
 ghost use Rattle.json_value.specs.Seen.{seen};
-ghost use Rattle.json_value.specs.Sights.{sight_of};
+ghost use Rattle.json_value.specs.ViewTargets.{view_target};
 ghost use Rattle.json_tokens.specs.Kinds.{DenotesToken};
 ghost use Rattle.json_grammar.specs.TokenStates.{after_token};
-ghost use Rattle.json_tokens.specs.Stand.{NotWhole};
-ghost use Rattle.json_tokens.specs.Values.{Left, left_after_opening, value_state, value_taken, value_stand, value_placed, next_sight, at_begin, NoElement, SettlesNext, TakesTokensTo, Breaks};
+ghost use Rattle.json_tokens.specs.TokensStates.{NotWhole};
+ghost use Rattle.json_tokens.specs.Values.{Left, left_after_opening, value_state, value_taken, value_tokens_state, value_placed, next_target, at_begin, NoElement, SettlesNext, TakesTokensTo, Breaks};
 
 use crate::level::Level;
 use crate::piece::Piece;
-use crate::refusals::refusal;
+use crate::refusals::error_without_place;
 use crate::token::{Token, TokenKind, TokenOf};
 use crate::tokens::Tokens;
 use crate::view_tokens::{scalar_token, view_kind};
 use json_doc::JsonType;
-use json_text::{Error, ErrorCode, Result};
+use json_io::{Error, ErrorCode, Result};
 use json_value::{Value, View};
 use std::alloc::Global;
 use std::mem;
@@ -39,7 +39,7 @@ pub struct ValueTokens<'a> {
     inner: Level<'a>,
     outer: Vec<Level<'a>>,
     // whether the kind of the next token was returned
-    told: bool,
+    peeked: bool,
     // whether memory ran out
     failed: bool,
 }
@@ -48,7 +48,7 @@ impl<'a> ValueTokens<'a> {
     /// Creates a source at the beginning of the value.
     pub fn new(alloc: Global, view: View<'a>) -> ValueTokens<'a>
         ensures state { value_state result ≡ at_begin (seen view.entry) }
-        ensures sight { next_sight result.next result.inner ≡ Some (sight_of view.entry) }
+        ensures target { next_target result.next result.inner ≡ Some (view_target view.entry) }
         ensures taken { value_taken result [] }
     {
         ValueTokens {
@@ -56,16 +56,16 @@ impl<'a> ValueTokens<'a> {
             next: Some(view),
             inner: Level::Root,
             outer: Vec::new(alloc),
-            told: false,
+            peeked: false,
             failed: false,
         }
     }
 
     // Reaches the next element, if one is left.
-    fn settle(&mut self)
+    fn reach_element(&mut self)
         ensures state { SettlesNext (value_state self.old) (value_state self.new) }
-        ensures sight { option_map sight_of self.new.next
-            ≡ next_sight self.old.next self.old.inner }
+        ensures target { option_map view_target self.new.next
+            ≡ next_target self.old.next self.old.inner }
     {
         if self.next.is_none() {
             self.next = self.inner.element();
@@ -78,7 +78,7 @@ impl<'a> ValueTokens<'a> {
         ensures failed { value_state self.new ≡ record (value_state self.old) { failed = true } }
     {
         self.failed = true;
-        refusal(ErrorCode::NoMemory)
+        error_without_place(ErrorCode::NoMemory)
     }
 
     // Goes from the next value into what is left of it.
@@ -87,7 +87,7 @@ impl<'a> ValueTokens<'a> {
             ≡ record s {
               next = None;
               levels = left_after_opening level.entry s.levels;
-              told = false;
+              peeked = false;
             }) }
         ensures err { IfErr result (λ e. (e ≡ no_memory)
             × Breaks (value_state self.old) (value_state self.new)) }
@@ -96,7 +96,7 @@ impl<'a> ValueTokens<'a> {
         match self.outer.push(outer) {
             Ok(()) => {
                 self.next = None;
-                self.told = false;
+                self.peeked = false;
                 Ok(())
             }
             Err(_) => Err(self.exhaust()),
@@ -107,11 +107,11 @@ impl<'a> ValueTokens<'a> {
     fn exit(&mut self)
         ensures state { let s = value_state self.old in (l : Left) (ls : List Left)
             → s.levels ≡ l ∷ ls
-            → value_state self.new ≡ record s { next = None; levels = ls; told = false } }
+            → value_state self.new ≡ record s { next = None; levels = ls; peeked = false } }
         ensures failed { self.new.failed ≡ self.old.failed }
     {
         self.next = None;
-        self.told = false;
+        self.peeked = false;
         match self.outer.pop() {
             Some(level) => self.inner = level,
             None => self.inner = Level::Root,
@@ -123,7 +123,7 @@ impl<'a> ValueTokens<'a> {
         requires { (value_state self.old).next ≡ Some (seen view) }
         ensures ok { IfOk result (λ y. (x : Tok) × DenotesToken (λ s. s.now) y x
             × TakesTokensTo (value_state self.old) (value_state self.new) (x ∷ [])
-            (after_token (value_stand self.old).spot x)) }
+            (after_token (value_tokens_state self.old).expected x)) }
         ensures err { IfErr result (λ e. (e ≡ no_memory)
             × Breaks (value_state self.old) (value_state self.new)) }
     {
@@ -138,7 +138,7 @@ impl<'a> ValueTokens<'a> {
             }
             _ => {
                 self.next = None;
-                self.told = false;
+                self.peeked = false;
                 Ok(scalar_token(view))
             }
         }
@@ -146,17 +146,17 @@ impl<'a> ValueTokens<'a> {
 
     // Takes a key or the end of a container if no value is next.
     fn take_front(&mut self) -> TokenOf<&'a str>
-        requires open { NotWhole (value_stand self.old) }
+        requires open { NotWhole (value_tokens_state self.old) }
         requires next { (value_state self.old).next ≡ None }
         requires reached { NoElement (value_state self.old).levels }
         ensures { (x : Tok) × DenotesToken (λ s. s.now) result x
             × TakesTokensTo (value_state self.old) (value_state self.new) (x ∷ [])
-            (after_token (value_stand self.old).spot x) }
+            (after_token (value_tokens_state self.old).expected x) }
     {
         let front = self.inner.front();
         if let Some((key, value)) = self.inner.member() {
             self.next = Some(value);
-            self.told = false;
+            self.peeked = false;
             return Token::Key(Piece::plain(key));
         }
         self.exit();
@@ -171,7 +171,7 @@ impl<'a> ValueTokens<'a> {
 impl<'a> Tokens<&'a str> for ValueTokens<'a> {
     ghost taken = { value_taken };
 
-    ghost stand = { value_stand };
+    ghost state = { value_tokens_state };
 
     ghost causes = { λ _ e. e ≡ no_memory };
 
@@ -179,10 +179,10 @@ impl<'a> Tokens<&'a str> for ValueTokens<'a> {
 
     fn peek(&mut self) -> Result<TokenKind> {
         if self.failed {
-            return Err(refusal(ErrorCode::NoMemory));
+            return Err(error_without_place(ErrorCode::NoMemory));
         }
-        self.settle();
-        self.told = true;
+        self.reach_element();
+        self.peeked = true;
         match self.next {
             Some(view) => Ok(view_kind(view)),
             None => Ok(self.inner.front()),
@@ -191,9 +191,9 @@ impl<'a> Tokens<&'a str> for ValueTokens<'a> {
 
     fn next(&mut self) -> Result<TokenOf<&'a str>> {
         if self.failed {
-            return Err(refusal(ErrorCode::NoMemory));
+            return Err(error_without_place(ErrorCode::NoMemory));
         }
-        self.settle();
+        self.reach_element();
         match self.next {
             Some(view) => self.take_value(view),
             None => Ok(self.take_front()),
@@ -202,9 +202,9 @@ impl<'a> Tokens<&'a str> for ValueTokens<'a> {
 
     fn value(&mut self, alloc: Global) -> Result<Value> {
         if self.failed {
-            return Err(refusal(ErrorCode::NoMemory));
+            return Err(error_without_place(ErrorCode::NoMemory));
         }
-        self.settle();
+        self.reach_element();
         let view = match self.next {
             Some(view) => view,
             None => unreachable!(),
@@ -212,7 +212,7 @@ impl<'a> Tokens<&'a str> for ValueTokens<'a> {
         match view.to_value(alloc) {
             Ok(value) => {
                 self.next = None;
-                self.told = false;
+                self.peeked = false;
                 Ok(value)
             }
             Err(_) => Err(self.exhaust()),
@@ -221,17 +221,17 @@ impl<'a> Tokens<&'a str> for ValueTokens<'a> {
 
     fn skip(&mut self) -> Result<()> {
         if self.failed {
-            return Err(refusal(ErrorCode::NoMemory));
+            return Err(error_without_place(ErrorCode::NoMemory));
         }
-        self.settle();
+        self.reach_element();
         self.next = None;
-        self.told = false;
+        self.peeked = false;
         Ok(())
     }
 
     fn leave(&mut self) -> Result<()> {
         if self.failed {
-            return Err(refusal(ErrorCode::NoMemory));
+            return Err(error_without_place(ErrorCode::NoMemory));
         }
         self.exit();
         Ok(())

@@ -9,7 +9,7 @@ use Rattle.json_io.specs.declared.error.ErrorCode.{ErrorCode}
 use Rattle.json_io.specs.declared.error.ErrorCode.TheVariants.{NoMemory, NotFound, TypeUnmatched}
 use Rattle.json_io.specs.declared.error.Place.{Place}
 use Rattle.json_io.specs.declared.error.Place.TheVariants.{None as nowhere}
-use Rattle.json_model.specs.Edit.{has_key, inserted, pushed, removed, without_key, without_index, Changed, Refusal, within, on_list, on_pairs, at_path, at_key, at_index, edited_once, Step, not_found, type_unmatched}
+use Rattle.json_model.specs.Edit.{has_key, inserted, pushed, removed, without_key, without_index, Changed, EditRefusal, within, on_list, on_pairs, at_path, at_key, at_index, edited_once, Step, not_found, type_unmatched}
 use Rattle.json_value.specs.Denotes.{tree_of, list_in, pairs_in, pair_of, text_bytes}
 use Rattle.json_value.specs.Edits.{step_of, steps_of, edit_at, change_of, RefusesChange}
 use Rattle.json_value.specs.FirstMember.{IsFirstOf}
@@ -26,7 +26,7 @@ use Rattle.json_value.proofs.TreeEdits.{at_index-here, at_index-missed, pushed-l
 use Rattle.json_value.proofs.ValueLevels.{array_tree, object_tree}
 
 -- a refusal is passed on
-pub refuses_so : {A B : Type 0} (r : Changed A) (s : Changed B) → ((e : Refusal) → r ≡ Err e → s ≡ Err e) → (code : ErrorCode) (place : Place) → RefusesChange r code place → RefusesChange s code place
+pub refuses_so : {A B : Type 0} (r : Changed A) (s : Changed B) → ((e : EditRefusal) → r ≡ Err e → s ≡ Err e) → (code : ErrorCode) (place : Place) → RefusesChange r code place → RefusesChange s code place
 refuses_so r s so NoMemory nowhere h = tt
 refuses_so r s so NotFound nowhere h = so not_found h
 refuses_so r s so TypeUnmatched nowhere h = so type_unmatched h
@@ -62,7 +62,7 @@ module _ (self : Value) (a : Container Value) (v : Vec Value Global) (is : self 
   pub array_changed : (f : Trees → Changed Trees) (w : Vec Value Global) → f (list_trees (map tree_of v.items)) ≡ Ok (list_trees (map tree_of w.items)) → on_list f (tree_of self) ≡ Ok (tree_of (Array (owned w)))
   array_changed f w e = ap (on_list f) array_before ∙ ap (within list) e ∙ sym (ap Ok (array_tree (owned w)))
 
-  pub array_missed : (f : Trees → Changed Trees) (r : Refusal) → f (list_trees (map tree_of v.items)) ≡ Err r → on_list f (tree_of self) ≡ Err r
+  pub array_missed : (f : Trees → Changed Trees) (r : EditRefusal) → f (list_trees (map tree_of v.items)) ≡ Err r → on_list f (tree_of self) ≡ Err r
   array_missed f r e = ap (on_list f) array_before ∙ ap (within list) e
 
 -- ---- an object whose members were lent
@@ -77,7 +77,7 @@ module _ (self : Value) (o : Container (Keyed Value)) (v : Vec (Keyed Value) Glo
   pub object_changed : (f : Pairs → Changed Pairs) (w : Vec (Keyed Value) Global) → f (list_pairs (map pair_of v.items)) ≡ Ok (list_pairs (map pair_of w.items)) → on_pairs f (tree_of self) ≡ Ok (tree_of (Object (owned w)))
   object_changed f w e = ap (on_pairs f) object_before ∙ ap (within pairs) e ∙ sym (ap Ok (object_tree (owned w)))
 
-  pub object_missed : (f : Pairs → Changed Pairs) (r : Refusal) → f (list_pairs (map pair_of v.items)) ≡ Err r → on_pairs f (tree_of self) ≡ Err r
+  pub object_missed : (f : Pairs → Changed Pairs) (r : EditRefusal) → f (list_pairs (map pair_of v.items)) ≡ Err r → on_pairs f (tree_of self) ≡ Err r
   object_missed f r e = ap (on_pairs f) object_before ∙ ap (within pairs) e
 
 -- ---- members

@@ -56,15 +56,15 @@ more_trees [] i u e = absurd (cc)
 more_trees (t ∷ ts) zero u e = let s : u ≡ t = cc in ap (λ l. 44 ∷ l) (ap (shown None 0) s ∙ level_free 0 1 t ∙ sym (append-nil (shown None 1 t)))
 more_trees (t ∷ ts) (suc i) u e = ap (λ l. 44 ∷ l) (append_assoc (shown None 1 t) _ _ ∙ ap (λ l. shown None 1 t ++ l) (more_trees ts i u e))
 
-element_behind : (ts : List Tree) (i : ℕ) (u : Tree) → slice_get ts i ≡ Some u → (array_text ts i ++ comma (i == 0)) ++ shown None 0 u ≡ array_text ts (suc i)
-element_behind [] i u e = absurd (cc)
-element_behind (t ∷ ts) zero u e = let s : u ≡ t = cc in ap (λ l. 91 ∷ l) (ap (shown None 0) s ∙ level_free 0 1 t ∙ sym (append-nil (shown None 1 t)))
-element_behind (t ∷ ts) (suc i) u e =
+element_after : (ts : List Tree) (i : ℕ) (u : Tree) → slice_get ts i ≡ Some u → (array_text ts i ++ comma (i == 0)) ++ shown None 0 u ≡ array_text ts (suc i)
+element_after [] i u e = absurd (cc)
+element_after (t ∷ ts) zero u e = let s : u ≡ t = cc in ap (λ l. 91 ∷ l) (ap (shown None 0) s ∙ level_free 0 1 t ∙ sym (append-nil (shown None 1 t)))
+element_after (t ∷ ts) (suc i) u e =
     ap (λ c. (array_text (t ∷ ts) (suc i) ++ c) ++ shown None 0 u) (behind i)
     ∙ ap (λ l. 91 ∷ l) (joined (shown None 1 t) (more_trees_shown None 1 (list_trees (take i ts))) (44 ∷ []) (shown None 0 u) ∙ ap (λ l. shown None 1 t ++ (l ++ [])) (more_trees ts i u e))
 
 pub element_shown : (ts : List Tree) (i : ℕ) (c : List ℕ) (u : Tree) → c ≡ comma (i == 0) → slice_get ts i ≡ Some u → (array_text ts i ++ c) ++ shown None 0 u ≡ array_text ts (i + 1)
-element_shown ts i c u s e = ap (λ x. (array_text ts i ++ x) ++ shown None 0 u) s ∙ element_behind ts i u e ∙ ap (array_text ts) (next i)
+element_shown ts i c u s e = ap (λ x. (array_text ts i ++ x) ++ shown None 0 u) s ∙ element_after ts i u e ∙ ap (array_text ts) (next i)
 
 -- an array is the list of its elements
 pub list_itself : (t : Tree) (ts : List Tree) → Some ts ≡ list_of t → list (list_trees ts) ≡ t
@@ -96,18 +96,18 @@ more_pairs (p ∷ ps) zero k u e =
 more_pairs (p ∷ ps) (suc i) k u e =
     ap (λ l. 44 ∷ l) (append_assoc (quoted p.0) _ _ ∙ ap (λ l. quoted p.0 ++ (58 ∷ l)) (append_assoc (shown None 1 p.1) _ _ ∙ ap (λ l. shown None 1 p.1 ++ l) (more_pairs ps i k u e)))
 
-member_behind : (ps : List (List ℕ × Tree)) (i : ℕ) (k : List ℕ) (u : Tree) → slice_get ps i ≡ Some (k, u) → (object_text ps i ++ (comma (i == 0) ++ (quoted k ++ 58 ∷ []))) ++ shown None 0 u ≡ object_text ps (suc i)
-member_behind [] i k u e = absurd (cc)
-member_behind (p ∷ ps) zero k u e =
+member_after : (ps : List (List ℕ × Tree)) (i : ℕ) (k : List ℕ) (u : Tree) → slice_get ps i ≡ Some (k, u) → (object_text ps i ++ (comma (i == 0) ++ (quoted k ++ 58 ∷ []))) ++ shown None 0 u ≡ object_text ps (suc i)
+member_after [] i k u e = absurd (cc)
+member_after (p ∷ ps) zero k u e =
     let j : k ≡ p.0 = cc in let s : u ≡ p.1 = cc in
     ap₂ (λ q t. 123 ∷ ((quoted q ++ 58 ∷ []) ++ shown None 0 t)) j s ∙ ap (λ l. 123 ∷ l) (first_member p.0 p.1)
-member_behind (p ∷ ps) (suc i) k u e =
+member_after (p ∷ ps) (suc i) k u e =
     ap (λ c. (object_text (p ∷ ps) (suc i) ++ (c ++ (quoted k ++ 58 ∷ []))) ++ shown None 0 u) (behind i)
     ∙ ap (λ l. 123 ∷ l) (joined_pairs (quoted p.0) (shown None 1 p.1) (more_pairs_shown None 1 (list_pairs (take i ps))) (44 ∷ []) (quoted k) (shown None 0 u) ∙ ap (λ l. quoted p.0 ++ (58 ∷ (shown None 1 p.1 ++ (l ++ [])))) (more_pairs ps i k u e))
 
 pub member_shown : (ps : List (List ℕ × Tree)) (i : ℕ) (c k : List ℕ) (u : Tree) → c ≡ comma (i == 0) → slice_get ps i ≡ Some (k, u)
     → (object_text ps i ++ (c ++ (quoted k ++ 58 ∷ []))) ++ shown None 0 u ≡ object_text ps (i + 1)
-member_shown ps i c k u s e = ap (λ x. (object_text ps i ++ (x ++ (quoted k ++ 58 ∷ []))) ++ shown None 0 u) s ∙ member_behind ps i k u e ∙ ap (object_text ps) (next i)
+member_shown ps i c k u s e = ap (λ x. (object_text ps i ++ (x ++ (quoted k ++ 58 ∷ []))) ++ shown None 0 u) s ∙ member_after ps i k u e ∙ ap (object_text ps) (next i)
 
 -- an object is the list of its members
 pub pairs_itself : (t : Tree) (ps : List (List ℕ × Tree)) → Some ps ≡ object_pairs t → pairs (list_pairs ps) ≡ t

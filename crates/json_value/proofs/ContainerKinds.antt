@@ -1,7 +1,7 @@
 -- Arrays and objects read of a tree, and trees that are none.
 use Rattle.std.proofs.Common.{◌≡◌, Some, None, Ok, Err, refl, sym, ap, ◌∙◌}
 use Rattle.json_grammar.specs.Tree.{Tree, null, boolean, num, text, list, pairs, Trees, Pairs}
-use Rattle.json_model.specs.Edit.{Changed, Refusal, type_unmatched, on_list, on_pairs}
+use Rattle.json_model.specs.Edit.{Changed, EditRefusal, type_unmatched, on_list, on_pairs}
 use Rattle.json_value.specs.Denotes.{tree_of, list_in, pairs_in}
 use Rattle.json_value.specs.Seen.{list_of, object_pairs}
 use Rattle.json_value.specs.declared.container.Container.{Container}
@@ -16,7 +16,7 @@ list_read v a b is same = ap (λ (w : Value). list_of (tree_of w)) is ∙ ap lis
 pub pairs_read : (v : Value) (a b : Container (Keyed Value)) → v ≡ Object a → pairs_in b ≡ pairs_in a → object_pairs (tree_of v) ≡ Some (pairs_in b)
 pairs_read v a b is same = ap (λ (w : Value). object_pairs (tree_of w)) is ∙ ap object_pairs (object_tree a) ∙ ap Some (pairs_again (pairs_in a) ∙ sym same)
 
-no_ok : {A : Type 0} (t : A) (r : Refusal) → ◌≡◌ {A = Changed A} (Ok t) (Err r) → ⊥
+no_ok : {A : Type 0} (t : A) (r : EditRefusal) → ◌≡◌ {A = Changed A} (Ok t) (Err r) → ⊥
 no_ok t r e = cc
 
 pub list_none : (t : Tree) → ((f : Trees → Changed Trees) → on_list f t ≡ Err type_unmatched) → list_of t ≡ None

@@ -9,7 +9,7 @@ use Rattle.json_value.specs.Edits.{steps_of, step_of}
 use Rattle.json_value.specs.FirstMember.{IsFirstOf}
 use Rattle.json_value.specs.Lending.{first_node, PutsAtPath}
 use Rattle.json_value.specs.Rows.{owned, keyed_so, IsOwnObject}
-use Rattle.json_value.specs.Spots.{spot_of_text}
+use Rattle.json_value.specs.Positions.{text_position}
 use Rattle.json_value.specs.Steps.{child}
 use Rattle.json_value.specs.Touched.{ArrayTouched, ObjectTouched, AtElement, AtMember, Appended, Touches, RemovalTouches, unkeyed, Along, ReplacedBy, Exchanges, AppendsItem, OfValue, UpsertedAt, Upserts, ExchangesOrUpserts}
 use Rattle.json_value.specs.Written.{FirstElements, FirstMembers, value_in}
@@ -105,7 +105,7 @@ module _ (Changes : Value → Value → Type 0) (k : List ℕ) (ps qs : List (Ke
   seated_behind : i ≡ length ps → Appended k (OfValue Null) ps qs → Appended k (OfValue w) ps (set qs i (keyed_so p.key w))
   seated_behind end a =
       let same : p ≡ a.member = last_read ps qs a.member i a.more end p is in
-      record { member = keyed_so p.key w; none = a.none; more = last_set ps qs a.member i a.more end (keyed_so p.key w); is = (ap (λ (m : Keyed Value). spot_of_text m.key) same ∙ a.is.0, refl) }
+      record { member = keyed_so p.key w; none = a.none; more = last_set ps qs a.member i a.more end (keyed_so p.key w); is = (ap (λ (m : Keyed Value). text_position m.key) same ∙ a.is.0, refl) }
 
   seated_items : UpsertedAt k i ps qs → SeatsItems ps (set qs i (keyed_so p.key w))
   seated_items (inl e) = inl (subst (λ (xs : List (Keyed Value)). AtMember k Changes xs (set qs i (keyed_so p.key w))) e (at_member Changes k qs i p w is first h))

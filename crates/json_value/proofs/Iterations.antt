@@ -7,8 +7,8 @@ use Rattle.std.specs.List.{enumerate_from, zip}
 use Rattle.json_grammar.specs.Tree.{Tree}
 use Rattle.json_doc.specs.Seen.{child_place}
 use Rattle.json_doc.specs.declared.doc.Doc.{Doc}
-use Rattle.json_value.specs.Sights.{Sight, place_of}
-use Rattle.json_value.specs.SightParts.{child_sight, elements_at, members_at}
+use Rattle.json_value.specs.ViewTargets.{ViewTarget, place_of}
+use Rattle.json_value.specs.TargetParts.{child_target, elements_at, members_at}
 
 past : {X : Type 0} (xs : List X) (i : ℕ) → drop i xs ≡ [] → slice_get xs i ≡ None
 past [] i e = refl
@@ -69,7 +69,7 @@ each_read g r f (x ∷ xs) (k ∷ ks) e h (suc i) = let more : map g xs ≡ map 
 
 module _ (d : Doc) (held : Option Doc) (at : ℕ) where
   numbered : (n : ℕ) (ks : List ℕ) (ts : List Tree) → length ks ≡ length ts → ((i : ℕ) → i < length ks → slice_get ks i ≡ Some (child_place d at (n + i)))
-      → map (place_of d held) ks ≡ map (λ (q : ℕ × Tree). child_sight d held at q.0) (enumerate_from n ts)
+      → map (place_of d held) ks ≡ map (λ (q : ℕ × Tree). child_target d held at q.0) (enumerate_from n ts)
   numbered n [] [] e h = refl
   numbered n [] (t ∷ ts) e h = absurd (omega arith)
   numbered n (k ∷ ks) [] e h = absurd (omega arith)
@@ -77,11 +77,11 @@ module _ (d : Doc) (held : Option Doc) (at : ℕ) where
       let there : Some k ≡ Some (child_place d at (n + 0)) = h 0 (omega arith) in
       let here_k : k ≡ child_place d at (n + 0) = cc in
       let zeroth : n + 0 ≡ n = omega arith in
-      ap₂ (λ (s : Sight) (ss : List Sight). s ∷ ss) (ap (place_of d held) (here_k ∙ ap (child_place d at) zeroth))
+      ap₂ (λ (s : ViewTarget) (ss : List ViewTarget). s ∷ ss) (ap (place_of d held) (here_k ∙ ap (child_place d at) zeroth))
       (numbered (n + 1) ks ts (omega arith) (λ i l. h (suc i) (omega arith) ∙ (let moved : n + suc i ≡ (n + 1) + i = omega arith in ap (λ j. Some (child_place d at j)) moved)))
 
   numbered_members : (n : ℕ) (ks : List ℕ) (ps : List (List ℕ × Tree)) → length ks ≡ length ps → ((i : ℕ) → i < length ks → slice_get ks i ≡ Some (child_place d at (n + i)))
-      → zip (map (λ q. q.0) ps) (map (place_of d held) ks) ≡ map (λ (q : ℕ × (List ℕ × Tree)). (q.1.0, child_sight d held at q.0)) (enumerate_from n ps)
+      → zip (map (λ q. q.0) ps) (map (place_of d held) ks) ≡ map (λ (q : ℕ × (List ℕ × Tree)). (q.1.0, child_target d held at q.0)) (enumerate_from n ps)
   numbered_members n [] [] e h = refl
   numbered_members n [] (p ∷ ps) e h = absurd (omega arith)
   numbered_members n (k ∷ ks) [] e h = absurd (omega arith)
@@ -89,7 +89,7 @@ module _ (d : Doc) (held : Option Doc) (at : ℕ) where
       let there : Some k ≡ Some (child_place d at (n + 0)) = h 0 (omega arith) in
       let here_k : k ≡ child_place d at (n + 0) = cc in
       let zeroth : n + 0 ≡ n = omega arith in
-      ap₂ (λ (s : Sight) (ss : List (List ℕ × Sight)). (p.0, s) ∷ ss) (ap (place_of d held) (here_k ∙ ap (child_place d at) zeroth))
+      ap₂ (λ (s : ViewTarget) (ss : List (List ℕ × ViewTarget)). (p.0, s) ∷ ss) (ap (place_of d held) (here_k ∙ ap (child_place d at) zeroth))
       (numbered_members (n + 1) ks ps (omega arith) (λ i l. h (suc i) (omega arith) ∙ (let moved : n + suc i ≡ (n + 1) + i = omega arith in ap (λ j. Some (child_place d at j)) moved)))
 
   from_zero : (ks : List ℕ) → ((i : ℕ) → i < length ks → slice_get ks i ≡ Some (child_place d at i)) → (i : ℕ) → i < length ks → slice_get ks i ≡ Some (child_place d at (0 + i))

@@ -9,7 +9,7 @@ use Rattle.std.proofs.lemmas.Option.{none-some, same_Some}
 use Rattle.json_grammar.specs.Tree.{Tree, null, boolean, num, text, list, pairs, Trees, no_trees, tree_and, Pairs, no_pairs, pair_and, trees_list, pairs_list}
 use Rattle.json_io.specs.declared.error.ErrorCode.{ErrorCode}
 use Rattle.json_io.specs.declared.error.Place.{Place}
-use Rattle.json_model.specs.Edit.{Step, key_step, index_step, Changed, Refusal, within, at_path, at_key, at_index}
+use Rattle.json_model.specs.Edit.{Step, key_step, index_step, Changed, EditRefusal, within, at_path, at_key, at_index}
 use Rattle.json_value.specs.Edits.{steps_of, step_of, RefusesChange}
 use Rattle.json_value.specs.Lending.{first_node}
 use Rattle.json_value.specs.Seen.{first_of}
@@ -51,7 +51,7 @@ there (index_step i) (text s) c g r here e = absurd (none-some c here)
 there (index_step i) (pairs ps) c g r here e = absurd (none-some c here)
 
 -- an error there is one of the whole, and putting back the tree there changes nothing
-key_passes : (k : List ℕ) (ps : Pairs) (c : Tree) (e : Refusal) → option_map (λ (q : List ℕ × Tree). q.1) (first_of k (pairs_list ps)) ≡ Some c → at_key k (λ _. Err e) ps ≡ Err e
+key_passes : (k : List ℕ) (ps : Pairs) (c : Tree) (e : EditRefusal) → option_map (λ (q : List ℕ × Tree). q.1) (first_of k (pairs_list ps)) ≡ Some c → at_key k (λ _. Err e) ps ≡ Err e
 key_passes k no_pairs c e here = absurd (none-some c here)
 key_passes k (pair_and n t ps) c e here = by (bytes_eq n k) here (key_passes k ps c e)
   where
@@ -61,12 +61,12 @@ key_passes k (pair_and n t ps) c e here = by (bytes_eq n k) here (key_passes k p
     by true is more = refl
     by false is more = ap (within (λ qs. pair_and n t qs)) (more is)
 
-index_passes : (i : ℕ) (ts : Trees) (c : Tree) (e : Refusal) → slice_get (trees_list ts) i ≡ Some c → at_index i (λ _. Err e) ts ≡ Err e
+index_passes : (i : ℕ) (ts : Trees) (c : Tree) (e : EditRefusal) → slice_get (trees_list ts) i ≡ Some c → at_index i (λ _. Err e) ts ≡ Err e
 index_passes i no_trees c e here = absurd (none-some c here)
 index_passes zero (tree_and t ts) c e here = refl
 index_passes (suc i) (tree_and t ts) c e here = ap (within (λ us. tree_and t us)) (index_passes i ts c e here)
 
-pub passes : (s : Step) (t c : Tree) (e : Refusal) → child s t ≡ Some c → at_path (s ∷ []) (λ _. Err e) t ≡ Err e
+pub passes : (s : Step) (t c : Tree) (e : EditRefusal) → child s t ≡ Some c → at_path (s ∷ []) (λ _. Err e) t ≡ Err e
 passes (key_step k) (pairs ps) c e here = ap (within pairs) (key_passes k ps c e here)
 passes (key_step k) null c e here = absurd (none-some c here)
 passes (key_step k) (boolean b) c e here = absurd (none-some c here)

@@ -10,7 +10,7 @@ pub mod CompactTexts
 pub mod WholeTrees
 pub mod ProperValues
 pub mod GivenTrees
-pub mod Sights
+pub mod PartTargets
 pub mod KeyLookups
 pub mod Iterations
 pub mod Merging

@@ -9,7 +9,7 @@ use Rattle.json_io.specs.declared.error.ErrorCode.{ErrorCode}
 use Rattle.json_io.specs.declared.error.ErrorCode.TheVariants.{NoMemory, NotFound, TypeUnmatched}
 use Rattle.json_io.specs.declared.error.Place.{Place}
 use Rattle.json_io.specs.declared.error.Place.TheVariants.{None as nowhere}
-use Rattle.json_model.specs.Edit.{Step, Changed, Refusal, not_found, type_unmatched, at_path}
+use Rattle.json_model.specs.Edit.{Step, Changed, EditRefusal, not_found, type_unmatched, at_path}
 use Rattle.json_value.specs.Denotes.{tree_of}
 use Rattle.json_value.specs.Edits.{RefusesChange, steps_of, step_of as node_step}
 use Rattle.json_value.specs.Lending.{first_node, none_or, missing_as_none, lent, lent_name, name_of_ok, LeadsTo, Opens}
@@ -44,9 +44,9 @@ one_of (Some u) = refl
 pub one_step : (s : Step) (t : Tree) → tree_at (s ∷ []) t ≡ child s t
 one_step s t = one_of (child s t)
 
-pub stands_one : (s : Step) (t : Tree) (r : Result (MutBor Value) Error) → IfOk r (λ v. child s t ≡ Some (tree_of v.now)) → IfErr r (λ e. (f : Tree → Changed Tree) → RefusesChange (at_path (s ∷ []) f t) e.code e.place) → LeadsTo (s ∷ []) t r
-stands_one s t (Ok x) value refused = one_step s t ∙ value
-stands_one s t (Err e) value refused = refused
+pub leads_one : (s : Step) (t : Tree) (r : Result (MutBor Value) Error) → IfOk r (λ v. child s t ≡ Some (tree_of v.now)) → IfErr r (λ e. (f : Tree → Changed Tree) → RefusesChange (at_path (s ∷ []) f t) e.code e.place) → LeadsTo (s ∷ []) t r
+leads_one s t (Ok x) value refused = one_step s t ∙ value
+leads_one s t (Err e) value refused = refused
 
 -- ---- what is there, put back
 
@@ -59,11 +59,11 @@ pub put_back : (p : List Step) (t u : Tree) → tree_at p t ≡ Some u → at_pa
 put_back [] t u e = ap (λ (v : Tree). Ok v) (sym (same_Some t u e))
 put_back (s ∷ p) t u e = back_step s p t u (child s t) refl (λ c. put_back p c u) e
 
-no_ok : (t : Tree) (r : Refusal) → ◌≡◌ {A = Changed Tree} (Ok t) (Err r) → ⊥
+no_ok : (t : Tree) (r : EditRefusal) → ◌≡◌ {A = Changed Tree} (Ok t) (Err r) → ⊥
 no_ok t r e = cc
 
 -- where each change is refused there is nothing
-missing : (p : List Step) (t : Tree) (r : Refusal) → ((f : Tree → Changed Tree) → at_path p f t ≡ Err r) → tree_at p t ≡ None
+missing : (p : List Step) (t : Tree) (r : EditRefusal) → ((f : Tree → Changed Tree) → at_path p f t ≡ Err r) → tree_at p t ≡ None
 missing p t r h = by (tree_at p t) refl
   where
     by : (o : Option Tree) → tree_at p t ≡ o → o ≡ None
@@ -77,9 +77,9 @@ nothing_at p t NotFound nowhere e h = sym (missing p t not_found h)
 nothing_at p t TypeUnmatched nowhere e h = sym (missing p t type_unmatched h)
 nothing_at p t code place e h = absurd (h (λ u. Ok u))
 
-pub missing_stands : (p : List Step) (t : Tree) (r : Result (MutBor Value) Error) → LeadsTo p t r → IfOk (missing_as_none r) (λ o. option_map (λ (x : MutBor Value). tree_of x.now) o ≡ tree_at p t)
-missing_stands p t (Ok x) h = sym h
-missing_stands p t (Err e) h = nothing_at p t e.code e.place e h
+pub missing_leads : (p : List Step) (t : Tree) (r : Result (MutBor Value) Error) → LeadsTo p t r → IfOk (missing_as_none r) (λ o. option_map (λ (x : MutBor Value). tree_of x.now) o ≡ tree_at p t)
+missing_leads p t (Ok x) h = sym h
+missing_leads p t (Err e) h = nothing_at p t e.code e.place e h
 
 memory_left : (p : List Step) (t : Tree) (code : ErrorCode) (place : Place) → ((f : Tree → Changed Tree) → RefusesChange (at_path p f t) code place)
     → IfErr (none_or {X = Value} code (record { code = code; place = place })) (λ e. e ≡ no_memory)
@@ -93,12 +93,12 @@ missing_only p t (Err e) h = memory_left p t e.code e.place h
 
 -- ---- along a path
 
-pub stands_along : (path rest : List PointerNode) (t c : Tree) → 0 < length path → rest ≡ drop 1 path → child (node_step (first_node path)) t ≡ Some c → (r : Result (MutBor Value) Error) → LeadsTo (steps_of rest) c r → LeadsTo (steps_of path) t r
-stands_along path rest t c more shorter here (Ok x) h = seen_along path rest t c (tree_of x.now) more shorter here h
-stands_along path rest t c more shorter here (Err e) h = refused_along path rest t c more shorter here e.code e.place h
+pub leads_along : (path rest : List PointerNode) (t c : Tree) → 0 < length path → rest ≡ drop 1 path → child (node_step (first_node path)) t ≡ Some c → (r : Result (MutBor Value) Error) → LeadsTo (steps_of rest) c r → LeadsTo (steps_of path) t r
+leads_along path rest t c more shorter here (Ok x) h = seen_along path rest t c (tree_of x.now) more shorter here h
+leads_along path rest t c more shorter here (Err e) h = refused_along path rest t c more shorter here e.code e.place h
 
-pub stands_first : (path : List PointerNode) (t : Tree) (e : Error) → 0 < length path → LeadsTo (node_step (first_node path) ∷ []) t (Err e) → LeadsTo (steps_of path) t (Err e)
-stands_first path t e more h = refused_first path t more e.code e.place h
+pub leads_first : (path : List PointerNode) (t : Tree) (e : Error) → 0 < length path → LeadsTo (node_step (first_node path) ∷ []) t (Err e) → LeadsTo (steps_of path) t (Err e)
+leads_first path t e more h = refused_first path t more e.code e.place h
 
 -- ---- a container
 

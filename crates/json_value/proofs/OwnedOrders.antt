@@ -4,7 +4,7 @@ use Rattle.std.proofs.lemmas.List.{get_or-map, get_or_at, get_or_default, length
 use Rattle.json_grammar.specs.Tree.{Tree, null, list_pairs}
 use Rattle.json_grammar.specs.Sizes.{nodes, pairs_nodes}
 use Rattle.json_model.specs.Sort.{pairs_sorted}
-use Rattle.json_print.specs.Orders.{Pair, In, Rise}
+use Rattle.json_print.specs.Orders.{NumberedKey, IsMember, Rise}
 use Rattle.json_value.specs.Denotes.{pair_of}
 use Rattle.json_doc_print.specs.KeyOrder.{key_and_number, IsKeyOrder}
 use Rattle.json_value.specs.OwnedKeys.{numbers_from, member_at, owned_key}
@@ -12,16 +12,16 @@ use Rattle.json_value.specs.declared.pair.Keyed.{Keyed}
 use Rattle.json_value.specs.declared.value.Value.{Value}
 use Rattle.json_doc_print.proofs.KeyOrders.{paired, sorted_at, in_order, number_in, value_in}
 
-from_up : (key : ℕ → List ℕ) (k n m : ℕ) → m ≤ k → (z : Pair) → In z (map (key_and_number key) (numbers_from k n)) → m ≤ z.1
+from_up : (key : ℕ → List ℕ) (k n m : ℕ) → m ≤ k → (z : NumberedKey) → IsMember z (map (key_and_number key) (numbers_from k n)) → m ≤ z.1
 from_up key k zero m l z h = absurd h
-from_up key k (suc n) m l z (inl e) = omega (arith, l, ap (λ (x : Pair). x.1) e)
+from_up key k (suc n) m l z (inl e) = omega (arith, l, ap (λ (x : NumberedKey). x.1) e)
 from_up key k (suc n) m l z (inr h) = from_up key (suc k) n m (omega (arith, l)) z h
 
 pub numbers_rise : (key : ℕ → List ℕ) (k n : ℕ) → Rise (map (key_and_number key) (numbers_from k n))
 numbers_rise key k zero = tt
 numbers_rise key k (suc n) = (λ z h. let more : suc k ≤ z.1 = from_up key (suc k) n (suc k) (omega arith) z h in omega (arith, more), numbers_rise key (suc k) n)
 
-pub number_below : (k n p : ℕ) → In p (numbers_from k n) → p < k + n
+pub number_below : (k n p : ℕ) → IsMember p (numbers_from k n) → p < k + n
 number_below k zero p h = absurd h
 number_below k (suc n) p (inl e) = omega (arith, e)
 number_below k (suc n) p (inr h) = omega (arith, number_below (suc k) n p h)
@@ -57,7 +57,7 @@ module _ (xs : List (Keyed Value)) (ns : List ℕ) (is : IsKeyOrder (owned_key x
   pub numbers_sorted : list_pairs (map (paired (owned_key xs) (sorted_at (owned_tree xs))) ns) ≡ pairs_sorted (list_pairs (map pair_of xs))
   numbers_sorted = in_order (owned_key xs) (owned_tree xs) (numbers_from 0 (length xs)) ns is ∙ ap (λ ps. pairs_sorted (list_pairs ps)) (owned_members xs)
 
-  number_there : (i : ℕ) → i < length ns → In (get_or ns i 0) (numbers_from 0 (length xs))
+  number_there : (i : ℕ) → i < length ns → IsMember (get_or ns i 0) (numbers_from 0 (length xs))
   number_there i l = number_in (owned_key xs) (numbers_from 0 (length xs)) ns is i (get_or ns i 0) l (get_or_default ns i 0 (get_or ns i 0) l)
 
   pub number_within : (i : ℕ) → i < length ns → get_or ns i 0 < length xs

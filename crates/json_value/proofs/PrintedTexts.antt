@@ -15,7 +15,7 @@ use Rattle.json_io.specs.Errors.{no_memory}
 use Rattle.json_io.specs.Known.{Appends, append_known}
 use Rattle.json_io.specs.Outside.{SinkState}
 use Rattle.json_io.specs.Transfer.{FlushesAll, WritingCause}
-use Rattle.json_layout.specs.Buffered.{held_behind}
+use Rattle.json_layout.specs.Buffered.{held_after}
 use Rattle.json_layout.specs.Pieces.{holds_any}
 use Rattle.json_layout.specs.TextWriting.{StopCause, WritesText}
 use Rattle.json_value.specs.Denotes.{list_in, pairs_in}
@@ -59,7 +59,7 @@ none_held : (held : List ℕ) (waits : Bool) → (holds_any held || waits) ≡ f
 none_held [] waits e = refl
 none_held (x ∷ held) waits e = absurd (cc)
 
-pub flushed_out : (gained : Option (List ℕ)) (new inner : SinkState) (held bytes : List ℕ) → new.gained ≡ gained → new.unflushed ≡ false → new ≡ held_behind inner held → inner.gained ≡ Some bytes → gained ≡ Some bytes
+pub flushed_out : (gained : Option (List ℕ)) (new inner : SinkState) (held bytes : List ℕ) → new.gained ≡ gained → new.unflushed ≡ false → new ≡ held_after inner held → inner.gained ≡ Some bytes → gained ≡ Some bytes
 flushed_out gained new inner held bytes k u e g =
     let none : held ≡ [] = none_held held inner.unflushed (sym (ap (λ (s : SinkState). s.unflushed) e) ∙ u) in
     sym k ∙ ap (λ (s : SinkState). s.gained) e ∙ ap (λ h. append_known inner.gained h) none ∙ ap (λ h. append_known h []) g ∙ ap Some (append-nil bytes)

@@ -14,7 +14,7 @@ use Rattle.json_number.specs.Numbers.{value_of, text_of_number}
 use Rattle.json_number.specs.declared.number.Number.{Number as NumberType}
 use Rattle.json_number.proofs.Forms.{reads}
 use Rattle.json_number.proofs.Integers.{prints_its_literal}
-use Rattle.json_doc.specs.Readings.{type_of, integer_of, literal_of, literal_unless}
+use Rattle.json_doc.specs.Readings.{type_of, integer_in_tree, literal_of, literal_unless}
 use Rattle.json_doc.specs.declared.json_type.JsonType.TheVariants as kind
 use Rattle.json_doc.proofs.Properness.{doc_proper}
 use Rattle.json_model.specs.Same.{same}
@@ -61,7 +61,7 @@ apart k None = refl
 apart k (Some n) = refl
 
 -- numbers of proper trees
-pub numbers_same : (t u : Tree) → type_of t ≡ kind.Number → IsProper t → IsProper u → same t u ≡ (option_eq int_eq (integer_of t) (integer_of u) && option_eq bytes_eq (literal_of t) (literal_of u))
+pub numbers_same : (t u : Tree) → type_of t ≡ kind.Number → IsProper t → IsProper u → same t u ≡ (option_eq int_eq (integer_in_tree t) (integer_in_tree u) && option_eq bytes_eq (literal_of t) (literal_of u))
 numbers_same null u e h g = absurd (cc)
 numbers_same (boolean b) u e h g = absurd (cc)
 numbers_same (text s) u e h g = absurd (cc)
@@ -83,7 +83,7 @@ with_text k x h (Some m) e = literals_same k (text_of_number x) h (reads x).0 (S
     all false = refl
 
 -- a proper tree and an integer by value
-pub integer_same : (t : Tree) (x : NumberType) → IsProper t → same t (num (text_of_number x)) ≡ option_eq int_eq (integer_of t) (Some (value_of x))
+pub integer_same : (t : Tree) (x : NumberType) → IsProper t → same t (num (text_of_number x)) ≡ option_eq int_eq (integer_in_tree t) (Some (value_of x))
 integer_same null x h = refl
 integer_same (boolean b) x h = refl
 integer_same (num k) x h = with_text k x h (integer_in k) refl

@@ -3,7 +3,7 @@ use Rattle.std.proofs.Common.{◌≡◌, ℕ, zero, suc, List, [], ◌∷◌, Bo
 use Rattle.std.specs.Prelude.{slice_get, option_map, option_and_then, IsErr, IsOkAnd}
 use Rattle.std.proofs.lemmas.Option.{none-some, same_Some}
 use Rattle.json_grammar.specs.Tree.{Tree, null, boolean, num, text, list, pairs, Trees, no_trees, tree_and, Pairs, no_pairs, pair_and, trees_list, pairs_list}
-use Rattle.json_model.specs.Edit.{Step, key_step, index_step, Changed, Refusal, within, at_path, at_key, at_index}
+use Rattle.json_model.specs.Edit.{Step, key_step, index_step, Changed, EditRefusal, within, at_path, at_key, at_index}
 use Rattle.json_model.specs.Places.{part_of, part_at}
 use Rattle.json_model.specs.Sort.{values_of}
 use Rattle.json_value.specs.Laws.{ChangeIsThere, ChangeRefusedThere, NoChangeNowhere, StepsLeadToParts}
@@ -103,7 +103,7 @@ module _ (s : Step) (p : List Step) (f : Tree → Changed Tree) (t c : Tree) (is
       and_so (Err e) at = at
   changed_behind w (Err e) g h = absurd h
 
-  refused_behind : (e : Refusal) → at_path p f c ≡ Err e → at_path (s ∷ p) f t ≡ Err e
+  refused_behind : (e : EditRefusal) → at_path p f c ≡ Err e → at_path (s ∷ p) f t ≡ Err e
   refused_behind e h = passed_on (Err e) h ∙ passes s t c e is
 
   missed_behind : (r : Changed Tree) → at_path p f c ≡ r → IsErr r → IsErr (at_path (s ∷ p) f t)
@@ -119,7 +119,7 @@ pub change_is_there : ChangeIsThere
 change_is_there [] f t u w here e = subst (λ (r : Changed Tree). IsOkAnd r (λ n. tree_at [] n ≡ Some w)) (sym (ap f (same_Some t u here) ∙ e)) refl
 change_is_there (s ∷ p) f t u w here e = there_step s p f t u w (child s t) refl here (λ c at. change_is_there p f c u w at e)
 
-refused_step : (s : Step) (p : List Step) (f : Tree → Changed Tree) (t u : Tree) (e : Refusal) (o : Option Tree) → child s t ≡ o → onward p o ≡ Some u
+refused_step : (s : Step) (p : List Step) (f : Tree → Changed Tree) (t u : Tree) (e : EditRefusal) (o : Option Tree) → child s t ≡ o → onward p o ≡ Some u
     → ((c : Tree) → tree_at p c ≡ Some u → at_path p f c ≡ Err e) → at_path (s ∷ p) f t ≡ Err e
 refused_step s p f t u e None is here more = absurd (none-some u here)
 refused_step s p f t u e (Some c) is here more = refused_behind s p f t c is e (more c here)

@@ -8,8 +8,8 @@ use Rattle.json_doc.specs.Left.{children_places, children_left, places_of_pairs,
 use Rattle.json_doc.specs.Seen.{view_doc}
 use Rattle.json_value.specs.Denotes.{tree_of, pair_of}
 use Rattle.json_value.specs.Seen.{seen, member_seen}
-use Rattle.json_value.specs.Sights.{Sight, whole_value, place_of, doc_held, sight_of}
-use Rattle.json_value.specs.SightParts.{pair_sight, member_sight}
+use Rattle.json_value.specs.ViewTargets.{ViewTarget, whole_value, place_of, doc_held, view_target}
+use Rattle.json_value.specs.TargetParts.{pair_target, member_target}
 use Rattle.json_value.specs.declared.array_view.ArrayIter.{ArrayIter}
 use Rattle.json_value.specs.declared.array_view.ElementsLeft.{ElementsLeft}
 use Rattle.json_value.specs.declared.array_view.ElementsLeft.TheVariants as elements
@@ -37,33 +37,33 @@ abbrev pub members_left : Iter → List (List ℕ × Tree)
 members_left s = pairs_to_come s.left
 
 -- the places of the elements, of the document that a value holds, if one does
-abbrev pub packed_sights : PackedElements → List Sight
-packed_sights p = map (place_of (view_doc p.packed.view) (doc_held p.packed.holder)) (children_places p.elements)
+abbrev pub packed_targets : PackedElements → List ViewTarget
+packed_targets p = map (place_of (view_doc p.packed.view) (doc_held p.packed.holder)) (children_places p.elements)
 
 -- what the views of the elements are of
-abbrev pub sights_to_come : ElementsLeft → List Sight
-sights_to_come (elements.Packed p) = packed_sights p
-sights_to_come (elements.Whole vs) = map whole_value vs.now
+abbrev pub remaining_targets : ElementsLeft → List ViewTarget
+remaining_targets (elements.Packed p) = packed_targets p
+remaining_targets (elements.Whole vs) = map whole_value vs.now
 
-abbrev pub elements_sights_left : ArrayIter → List Sight
-elements_sights_left s = sights_to_come s.left
+abbrev pub elements_targets_left : ArrayIter → List ViewTarget
+elements_targets_left s = remaining_targets s.left
 
 -- the same of the members, each with its key
-abbrev pub packed_member_sights : PackedMembers → List (List ℕ × Sight)
-packed_member_sights p = zip (map (λ q. q.0) (pairs_left p.members)) (map (place_of (view_doc p.packed.view) (doc_held p.packed.holder)) (places_of_pairs p.members))
+abbrev pub packed_member_targets : PackedMembers → List (List ℕ × ViewTarget)
+packed_member_targets p = zip (map (λ q. q.0) (pairs_left p.members)) (map (place_of (view_doc p.packed.view) (doc_held p.packed.holder)) (places_of_pairs p.members))
 
-abbrev pub member_sights_to_come : MembersLeft → List (List ℕ × Sight)
-member_sights_to_come (members.Packed p) = packed_member_sights p
-member_sights_to_come (members.Whole ps) = map pair_sight ps.now
+abbrev pub remaining_member_targets : MembersLeft → List (List ℕ × ViewTarget)
+remaining_member_targets (members.Packed p) = packed_member_targets p
+remaining_member_targets (members.Whole ps) = map pair_target ps.now
 
 -- what the views of the values are of, each with its key
-abbrev pub members_sights_left : Iter → List (List ℕ × Sight)
-members_sights_left s = member_sights_to_come s.left
+abbrev pub members_targets_left : Iter → List (List ℕ × ViewTarget)
+members_targets_left s = remaining_member_targets s.left
 
 -- a call gave the first element of what was left: its tree, and what its view is of
 abbrev pub GivesElement : ArrayIter → Option View → ArrayIter → Type 0
-GivesElement s r t = YieldsFirstBy seen elements_left s r t × YieldsFirstBy sight_of elements_sights_left s r t
+GivesElement s r t = YieldsFirstBy seen elements_left s r t × YieldsFirstBy view_target elements_targets_left s r t
 
 -- so the first member
 abbrev pub GivesMember : Iter → Option (Bor (List ℕ) × View) → Iter → Type 0
-GivesMember s r t = YieldsFirstBy member_seen members_left s r t × YieldsFirstBy member_sight members_sights_left s r t
+GivesMember s r t = YieldsFirstBy member_seen members_left s r t × YieldsFirstBy member_target members_targets_left s r t

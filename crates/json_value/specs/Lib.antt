@@ -2,7 +2,7 @@ pub mod Said
 pub mod Denotes
 pub mod Doubles
 pub mod Edits
-pub mod Spots
+pub mod Positions
 pub mod Places
 pub mod Rows
 pub mod Room
@@ -10,8 +10,8 @@ pub mod OwnLists
 pub mod Written
 pub mod OwnedKeys
 pub mod Seen
-pub mod Sights
-pub mod SightParts
+pub mod ViewTargets
+pub mod TargetParts
 pub mod FirstMember
 pub mod SameMembers
 pub mod Steps
@@ -19,7 +19,7 @@ pub mod ValueRefs
 pub mod Left
 pub mod Merged
 pub mod Made
-pub mod ViewSpots
+pub mod ViewPositions
 pub mod Touched
 pub mod Lending
 pub mod Laws

@@ -6,7 +6,7 @@ use Rattle.json_doc.specs.Seen.{view_tree}
 use Rattle.json_doc.specs.Readings.{elements}
 use Rattle.json_value.specs.Denotes.{tree_of, pair_of}
 use Rattle.json_doc_print.specs.Readings.{members}
-use Rattle.json_value.specs.Sights.{sight_tree, form_sight, sight_of}
+use Rattle.json_value.specs.ViewTargets.{target_tree, form_target, view_target}
 use Rattle.json_value.specs.declared.view.View.{View}
 use Rattle.json_value.specs.declared.view.ViewForm.{ViewForm}
 use Rattle.json_value.specs.declared.array_view.ArrayView.{ArrayView}
@@ -18,10 +18,10 @@ use Rattle.json_value.specs.declared.object_view.ObjectForm.TheVariants as objec
 
 -- the tree that is seen
 abbrev pub form_seen : ViewForm → Tree
-form_seen f = sight_tree (form_sight f)
+form_seen f = target_tree (form_target f)
 
 abbrev pub seen : View → Tree
-seen v = sight_tree (sight_of v)
+seen v = target_tree (view_target v)
 
 -- a member, as it is given
 abbrev pub member_seen : Bor (List ℕ) × View → List ℕ × Tree

@@ -7,7 +7,7 @@ use Rattle.json_value.specs.Denotes.{tree_of, pair_of, text_bytes, list_in, pair
 use Rattle.json_value.specs.FirstMember.{IsFirstOf}
 use Rattle.json_value.specs.Rows.{owned}
 use Rattle.json_value.specs.Places.{Origin, value_origin}
-use Rattle.json_value.specs.Spots.{spot_of_text}
+use Rattle.json_value.specs.Positions.{text_position}
 use Rattle.json_value.specs.Written.{FirstElements, FirstMembers, value_in, with_value}
 use Rattle.json_value.specs.declared.container.Container.{Container}
 use Rattle.json_value.specs.declared.pair.Keyed.{Keyed}
@@ -68,7 +68,7 @@ pub record Appended (k : List ℕ) (Is : Keyed Value → Type 0) (items now : Li
 -- a member whose key has the position of this one, and whose value and its parts have those
 -- positions
 abbrev pub HasOrigin : Text → Origin → Keyed Value → Type 0
-HasOrigin k s m = (spot_of_text m.key ≡ spot_of_text k) × (value_origin m.value ≡ s)
+HasOrigin k s m = (text_position m.key ≡ text_position k) × (value_origin m.value ≡ s)
 
 -- such a value was put in the first member of the key, or added with a member of its own
 abbrev pub Inserts : Text → Origin → List (Keyed Value) → List (Keyed Value) → Type 0
@@ -164,7 +164,7 @@ AppendsItem w = ArrayTouched (λ items now. now ≡ items ++ w ∷ [])
 
 -- a member of this value, whose key is no place
 abbrev pub OfValue : Value → Keyed Value → Type 0
-OfValue w m = (spot_of_text m.key ≡ None) × (m.value ≡ w)
+OfValue w m = (text_position m.key ≡ None) × (m.value ≡ w)
 
 -- a member of the key with null was added after the others where none has the key, and then it is
 -- the member at i

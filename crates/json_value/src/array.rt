@@ -9,23 +9,23 @@ ghost use Rattle.json_value.specs.Denotes.{tree_of, list_in};
 ghost use Rattle.json_value.specs.Said.{place_tree};
 ghost use Rattle.json_value.specs.Rows.{array_row, value_row, vec_row, owned, owned_items, owned_items_of, IsOwned, OwnsList};
 ghost use Rattle.json_value.specs.Room.{spare_in};
-ghost use Rattle.json_value.specs.Spots.{IsPlace, FirstList, PlaceElements, spot_of, read_spot};
+ghost use Rattle.json_value.specs.Positions.{IsPlace, FirstList, PlaceElements, doc_position, read_position};
 ghost use Rattle.json_value.specs.Written.{FirstElements};
 ghost use Rattle.json_value.specs.declared.value.Value.{Array as ArrayValue};
 ghost use Rattle.json_value.specs.Places.{places_in, array_places};
 ghost use Rattle.json_value.specs.Seen.{elements_seen};
-ghost use Rattle.json_value.specs.SightParts.{array_sights, elements_sights};
+ghost use Rattle.json_value.specs.TargetParts.{array_targets, elements_targets};
 ghost use Rattle.json_io.specs.Errors.{OnlyNoMemory};
 
 use crate::array_view::{ArrayForm, ArrayView};
 use crate::container::{Container, Form};
 use crate::packed_view::PackedView;
-use crate::place::Place;
+use crate::place::DocumentPosition;
 use crate::texts::{show_array, text_writer, text_written};
 use crate::value::Value;
 use json_doc::{Doc, DocChildren, DocNode};
-use json_print::answered;
-use json_text::Result;
+use json_io::Result;
+use json_layout::answered;
 use std::alloc::Global;
 use std::rc::Rc;
 
@@ -42,7 +42,7 @@ use std::rc::Rc;
 pub type Array = Container<Value>;
 
 // The elements of a packed array, each as a value of its own.
-fn unpack_list(alloc: Global, place: &Place) -> Result<Vec<Value>>
+fn unpack_list(alloc: Global, place: &DocumentPosition) -> Result<Vec<Value>>
     ensures list { IfOk result (λ v. map tree_of v.items ≡ elements (place_tree place.now)) }
     ensures children { IfOk result (λ v. PlaceElements place.now v.items) }
     ensures only { OnlyNoMemory result }
@@ -57,8 +57,8 @@ fn unpack_list(alloc: Global, place: &Place) -> Result<Vec<Value>>
 fn unpack_elements(alloc: Global, doc: &Rc<Doc>, elements: DocChildren<'_>) -> Result<Vec<Value>>
     requires { children_doc elements ≡ doc.now.value }
     ensures list { IfOk result (λ v. map tree_of v.items ≡ children_left elements.entry) }
-    ensures spots { IfOk result (λ v. map spot_of v.items
-        ≡ map (read_spot doc.now.value) (children_places elements.entry)) }
+    ensures spots { IfOk result (λ v. map doc_position v.items
+        ≡ map (read_position doc.now.value) (children_places elements.entry)) }
     ensures only { OnlyNoMemory result }
 {
     let mut list = Vec::with_capacity(alloc, elements.len())?;
@@ -186,7 +186,7 @@ impl Container<Value> {
     #[inline]
     pub fn view(&self) -> ArrayView<'_>
         ensures trees { elements_seen result ≡ list_in self.now }
-        ensures sights { elements_sights result ≡ array_sights self.now }
+        ensures sights { elements_targets result ≡ array_targets self.now }
     {
         let form = match &self.form {
             Form::Empty => ArrayForm::Whole(&[]),

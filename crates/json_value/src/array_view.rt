@@ -6,8 +6,8 @@ ghost use Rattle.json_doc.specs.Readings.{elements};
 ghost use Rattle.json_doc.specs.Seen.{view_doc, view_place, view_tree};
 ghost use Rattle.json_value.specs.Denotes.{tree_of};
 ghost use Rattle.json_value.specs.Seen.{seen, elements_seen, list_of};
-ghost use Rattle.json_value.specs.SightParts.{elements_at, sight_elements, elements_sights};
-ghost use Rattle.json_value.specs.Sights.{whole_value, place_of, doc_held, sight_of};
+ghost use Rattle.json_value.specs.TargetParts.{elements_at, target_elements, elements_targets};
+ghost use Rattle.json_value.specs.ViewTargets.{whole_value, place_of, doc_held, view_target};
 
 use crate::packed_view::PackedView;
 use crate::value::Value;
@@ -37,12 +37,12 @@ pub struct ArrayView<'a> {
 }
 
 impl<'a> ArrayView<'a> {
-    ghost use Rattle.json_value.specs.Left.{elements_left, elements_sights_left};
+    ghost use Rattle.json_value.specs.Left.{elements_left, elements_targets_left};
 
     pub(crate) fn of_packed(packed: PackedView<'a>) -> Option<ArrayView<'a>>
         ensures trees { option_map elements_seen result ≡ list_of (view_tree packed.entry.view) }
-        ensures sights { let p = packed.entry in option_map elements_sights result
-            ≡ sight_elements (place_of (view_doc p.view) (doc_held p.holder) (view_place p.view)) }
+        ensures sights { let p = packed.entry in option_map elements_targets result
+            ≡ target_elements (place_of (view_doc p.view) (doc_held p.holder) (view_place p.view)) }
     {
         match packed.view.get_type() {
             JsonType::Array => Some(ArrayView {
@@ -54,8 +54,8 @@ impl<'a> ArrayView<'a> {
 
     pub(crate) fn of_value(value: &'a Value) -> Option<ArrayView<'a>>
         ensures trees { option_map elements_seen result ≡ list_of (tree_of value.now) }
-        ensures sights { option_map elements_sights result
-            ≡ sight_elements (whole_value value.now) }
+        ensures sights { option_map elements_targets result
+            ≡ target_elements (whole_value value.now) }
     {
         match value {
             Value::Array(array) => Some(array.view()),
@@ -86,7 +86,7 @@ impl<'a> ArrayView<'a> {
     #[inline]
     pub fn get(self, i: usize) -> Option<View<'a>>
         ensures tree { option_map seen result ≡ slice_get (elements_seen self.entry) i }
-        ensures sight { option_map sight_of result ≡ slice_get (elements_sights self.entry) i }
+        ensures target { option_map view_target result ≡ slice_get (elements_targets self.entry) i }
     {
         match self.form {
             ArrayForm::Packed(packed) => packed_element(packed, i),
@@ -98,7 +98,7 @@ impl<'a> ArrayView<'a> {
     #[inline]
     pub fn iter(self) -> ArrayIter<'a>
         ensures trees { elements_left result ≡ elements_seen self.entry }
-        ensures sights { elements_sights_left result ≡ elements_sights self.entry }
+        ensures sights { elements_targets_left result ≡ elements_targets self.entry }
     {
         let left = match self.form {
             ArrayForm::Packed(packed) => ElementsLeft::of_packed(packed),
@@ -119,8 +119,8 @@ fn packed_len(view: DocView<'_>) -> usize
 
 fn packed_element(packed: PackedView<'_>, i: usize) -> Option<View<'_>>
     ensures tree { option_map seen result ≡ slice_get (elements (view_tree packed.entry.view)) i }
-    ensures sight { let p = packed.entry in let ts = elements (view_tree p.view) in
-        option_map sight_of result
+    ensures target { let p = packed.entry in let ts = elements (view_tree p.view) in
+        option_map view_target result
         ≡ slice_get (elements_at (view_doc p.view) (doc_held p.holder) (view_place p.view) ts) i }
 {
     match packed.view.element(i) {
@@ -133,7 +133,7 @@ fn packed_element(packed: PackedView<'_>, i: usize) -> Option<View<'_>>
 
 fn whole_element(values: &[Value], i: usize) -> Option<View<'_>>
     ensures tree { option_map seen result ≡ slice_get (map tree_of values.now) i }
-    ensures sight { option_map sight_of result ≡ slice_get (map whole_value values.now) i }
+    ensures target { option_map view_target result ≡ slice_get (map whole_value values.now) i }
 {
     if i < values.len() {
         Some(values[i].view())
@@ -175,12 +175,12 @@ pub(crate) struct PackedElements<'a> {
 
 impl<'a> PackedElements<'a> {
     ghost use Rattle.std.specs.Iterator.{YieldsFirstBy};
-    ghost use Rattle.json_value.specs.Left.{packed_sights};
+    ghost use Rattle.json_value.specs.Left.{packed_targets};
 
     #[inline]
     fn next(&mut self) -> Option<View<'a>>
         ensures tree { YieldsFirstBy seen (λ p. children_left p.elements) self.old result self.new }
-        ensures sight { YieldsFirstBy sight_of packed_sights self.old result self.new }
+        ensures target { YieldsFirstBy view_target packed_targets self.old result self.new }
     {
         match self.elements.next() {
             Some(element) => Some(View {
@@ -192,14 +192,14 @@ impl<'a> PackedElements<'a> {
 }
 
 impl<'a> ElementsLeft<'a> {
-    ghost use Rattle.json_value.specs.Left.{trees_to_come, sights_to_come};
+    ghost use Rattle.json_value.specs.Left.{trees_to_come, remaining_targets};
 
     // The elements of a place of a document; none where that is no array.
     #[inline]
     fn of_packed(packed: PackedView<'a>) -> ElementsLeft<'a>
         ensures trees { trees_to_come result ≡ elements (view_tree packed.entry.view) }
         ensures sights { let p = packed.entry in let ts = elements (view_tree p.view) in
-            sights_to_come result
+            remaining_targets result
             ≡ elements_at (view_doc p.view) (doc_held p.holder) (view_place p.view) ts }
     {
         match packed.view.node() {

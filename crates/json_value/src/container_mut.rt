@@ -18,10 +18,10 @@ use crate::index::Index;
 use crate::pair::{Keyed, Pair, find_key, find_or_insert};
 use crate::text::Text;
 use crate::value::Value;
-use json_text::{Error, ErrorCode, Place, Result};
+use json_io::{Error, ErrorCode, Place, Result};
 use std::alloc::Global;
 
-pub(crate) fn not_found() -> Error
+pub(crate) fn not_found_error() -> Error
     ensures { result ≡ not_found }
 {
     Error {
@@ -30,7 +30,7 @@ pub(crate) fn not_found() -> Error
     }
 }
 
-pub(crate) fn type_unmatched() -> Error
+pub(crate) fn type_unmatched_error() -> Error
     ensures { result ≡ type_unmatched }
 {
     Error {
@@ -102,7 +102,7 @@ impl ContainerMut for Value {
                 let list = array.list_mut(alloc)?;
                 Ok(list)
             }
-            None => Err(type_unmatched()),
+            None => Err(type_unmatched_error()),
         }
     }
 
@@ -112,7 +112,7 @@ impl ContainerMut for Value {
                 let pairs = object.pairs_mut(alloc)?;
                 Ok(pairs)
             }
-            None => Err(type_unmatched()),
+            None => Err(type_unmatched_error()),
         }
     }
 
@@ -123,7 +123,7 @@ impl ContainerMut for Value {
                 let pairs = object.pairs_mut(alloc)?;
                 Ok(pairs)
             }
-            None => Err(type_unmatched()),
+            None => Err(type_unmatched_error()),
         }
     }
 }
@@ -144,7 +144,7 @@ pub(crate) fn element_of<S: ContainerMut>(
     let list = container.list(alloc)?;
     match list.get_mut(index) {
         Some(value) => Ok(value),
-        None => Err(not_found()),
+        None => Err(not_found_error()),
     }
 }
 
@@ -167,12 +167,12 @@ pub(crate) fn member_of<'s, S: ContainerMut>(
             let pair = &mut pairs[i];
             Ok(pair.value_mut())
         }
-        None => Err(not_found()),
+        None => Err(not_found_error()),
     }
 }
 
 // The place to which the step leads.
-pub(crate) fn child_of<'s, S: ContainerMut, I: Index>(
+pub(crate) fn child_mut<'s, S: ContainerMut, I: Index>(
     container: &'s mut S,
     alloc: Global,
     index: &I,
@@ -180,14 +180,14 @@ pub(crate) fn child_of<'s, S: ContainerMut, I: Index>(
     ensures* writes_back { sem 𝓛 (LendsSoOk S.row value_row container.entry result
         (λ n w. PutsAt (I.step index.now ∷ []) result w (S.held container.old) (S.held n))
         (λ n. PutsNothing (I.step index.now ∷ []) (S.held container.old) (S.held n))) }
-    ensures stands { LeadsTo (I.step index.now ∷ []) (tree_of (S.held container.old)) result }
+    ensures leads { LeadsTo (I.step index.now ∷ []) (tree_of (S.held container.old)) result }
 {
     if let Some(key) = index.as_key() {
         return member_of(container, alloc, key);
     }
     match index.as_index() {
         Some(i) => element_of(container, alloc, i),
-        None => Err(not_found()),
+        None => Err(not_found_error()),
     }
 }
 
@@ -200,13 +200,13 @@ pub(crate) fn step_of<S: ContainerMut, I: Index>(
     ensures* writes_back { sem 𝓛 (LendsSoOk S.row value_row container.entry result
         (λ n w. PutsAt (I.step index ∷ []) result w (S.held container.old) (S.held n))
         (λ n. PutsNothing (I.step index ∷ []) (S.held container.old) (S.held n))) }
-    ensures stands { LeadsTo (I.step index ∷ []) (tree_of (S.held container.old)) result }
+    ensures leads { LeadsTo (I.step index ∷ []) (tree_of (S.held container.old)) result }
 {
-    child_of(container, alloc, &index)
+    child_mut(container, alloc, &index)
 }
 
 // The value of the first member of the key, or of a member with null that is appended.
-fn key_place<'s, S: ContainerMut>(
+fn key_value_mut<'s, S: ContainerMut>(
     container: &'s mut S,
     alloc: Global,
     key: &str,
@@ -236,7 +236,7 @@ pub(crate) fn insert_of<'s, S: ContainerMut>(
     ensures value { IfOk result (λ v. v.now ≡ val) }
     ensures only { OnlyNoMemory result }
 {
-    let place = key_place(container, alloc, key)?;
+    let place = key_value_mut(container, alloc, key)?;
     *place = val;
     Ok(place)
 }
@@ -308,6 +308,6 @@ pub(crate) fn place_or_insert<'s, S: ContainerMut, I: Index>(
     }
     match index.as_index() {
         Some(i) => element_of(container, alloc, i),
-        None => Err(not_found()),
+        None => Err(not_found_error()),
     }
 }

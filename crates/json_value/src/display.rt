@@ -13,7 +13,7 @@ use crate::object_view::ObjectView;
 use crate::pair::Keyed;
 use crate::value::Value;
 use crate::view::View;
-use json_print::Quoted;
+use json_layout::Quoted;
 use std::fmt;
 
 impl fmt::Display for Value {
@@ -28,7 +28,7 @@ impl fmt::Display for Container<Value> {
     ghost output = { λ a. Some (shown None 0 (list (list_trees (list_in a)))) };
 
     fn fmt<W: fmt::Write>(&self, f: &mut fmt::Formatter<W>) -> fmt::Result {
-        show_elements(self.view(), f)
+        display_elements(self.view(), f)
     }
 }
 
@@ -36,7 +36,7 @@ impl fmt::Display for Container<Keyed<Value>> {
     ghost output = { λ o. Some (shown None 0 (pairs (list_pairs (pairs_in o)))) };
 
     fn fmt<W: fmt::Write>(&self, f: &mut fmt::Formatter<W>) -> fmt::Result {
-        show_members(self.view(), f)
+        display_members(self.view(), f)
     }
 }
 
@@ -45,10 +45,10 @@ fn show<W: fmt::Write>(view: View<'_>, f: &mut fmt::Formatter<W>) -> fmt::Result
     ensures { WritesOnOk W.write_str_gives f.old result (shown None 0 (seen view.entry)) f.new }
 {
     if let Some(array) = view.as_array() {
-        return show_elements(array, f);
+        return display_elements(array, f);
     }
     if let Some(object) = view.as_object() {
-        return show_members(object, f);
+        return display_members(object, f);
     }
     show_scalar(view, f)
 }
@@ -75,14 +75,14 @@ fn show_scalar<W: fmt::Write>(view: View<'_>, f: &mut fmt::Formatter<W>) -> fmt:
 }
 
 // What is printed before the part `i` of a container.
-fn separator(i: usize) -> &'static str
+fn element_separator(i: usize) -> &'static str
     ensures { result.now ≡ comma (i == 0) }
 {
     if i == 0 { "" } else { "," }
 }
 
 #[cycle(text)]
-fn show_elements<W: fmt::Write>(array: ArrayView<'_>, f: &mut fmt::Formatter<W>) -> fmt::Result
+fn display_elements<W: fmt::Write>(array: ArrayView<'_>, f: &mut fmt::Formatter<W>) -> fmt::Result
     ensures { WritesOnOk W.write_str_gives f.old result
         (shown None 0 (list (list_trees (elements_seen array.entry)))) f.new }
 {
@@ -90,7 +90,7 @@ fn show_elements<W: fmt::Write>(array: ArrayView<'_>, f: &mut fmt::Formatter<W>)
     let mut elements = array.iter();
     'elements: for i in 0..array.len() {
         if let Some(element) = elements.next() {
-            f.write_str(separator(i))?;
+            f.write_str(element_separator(i))?;
             show(element, f)?;
         }
     }
@@ -98,7 +98,7 @@ fn show_elements<W: fmt::Write>(array: ArrayView<'_>, f: &mut fmt::Formatter<W>)
 }
 
 #[cycle(text)]
-fn show_members<W: fmt::Write>(object: ObjectView<'_>, f: &mut fmt::Formatter<W>) -> fmt::Result
+fn display_members<W: fmt::Write>(object: ObjectView<'_>, f: &mut fmt::Formatter<W>) -> fmt::Result
     ensures { WritesOnOk W.write_str_gives f.old result
         (shown None 0 (pairs (list_pairs (members_seen object.entry)))) f.new }
 {
@@ -106,7 +106,7 @@ fn show_members<W: fmt::Write>(object: ObjectView<'_>, f: &mut fmt::Formatter<W>
     let mut members = object.iter();
     'members: for i in 0..object.len() {
         if let Some((key, value)) = members.next() {
-            write!(f, "{}{}:", separator(i), Quoted(key))?;
+            write!(f, "{}{}:", element_separator(i), Quoted(key))?;
             show(value, f)?;
         }
     }

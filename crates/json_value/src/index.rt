@@ -12,7 +12,7 @@ ghost use Rattle.json_value.specs.Touched.{ExchangesOrUpserts};
 use crate::container_mut::place_or_insert;
 use crate::path::PointerNode;
 use crate::value::Value;
-use json_text::Result;
+use json_io::Result;
 use std::alloc::Global;
 
 /// A step into a value: a key leads to the first member of an object with that key, an index to an

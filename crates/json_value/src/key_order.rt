@@ -8,8 +8,8 @@ ghost use Rattle.json_value.specs.OwnedKeys.{numbers_from, owned_key};
 ghost use Rattle.json_io.specs.Errors.{OnlyNoMemory};
 
 use crate::pair::Pair;
-use json_doc_print::{Entry, Keys, entry_of, is_less, sort_by_key};
-use json_text::Result;
+use json_doc_print::{IndexedMember, MemberKeys, entry_of, is_less, sort_by_key};
+use json_io::Result;
 use std::alloc::Global;
 
 // The keys of the members of an owned object, which are numbered from 0 on.
@@ -18,7 +18,7 @@ struct OwnedKeys<'a> {
     pairs: &'a Vec<Pair>,
 }
 
-impl Keys for OwnedKeys<'_> {
+impl MemberKeys for OwnedKeys<'_> {
     ghost key_of = { λ k. owned_key k.pairs.now.items };
 
     #[inline]
@@ -45,7 +45,7 @@ pub(crate) fn owned_never_fall(pairs: &Vec<Pair>) -> bool
     true
 }
 
-fn entries_of_pairs(alloc: Global, pairs: &Vec<Pair>) -> Result<Vec<Entry>>
+fn entries_of_pairs(alloc: Global, pairs: &Vec<Pair>) -> Result<Vec<IndexedMember>>
     ensures numbers { IfOk result (λ v. numbers_in v.items
         ≡ numbers_from 0 (length pairs.now.items)) }
     ensures entries { IfOk result (λ v. AreEntries (owned_key pairs.now.items) v.items) }
@@ -60,7 +60,7 @@ fn entries_of_pairs(alloc: Global, pairs: &Vec<Pair>) -> Result<Vec<Entry>>
 }
 
 // The entries of the members in the order of their keys.
-pub(crate) fn owned_in_order(alloc: Global, pairs: &Vec<Pair>) -> Result<Vec<Entry>>
+pub(crate) fn owned_in_order(alloc: Global, pairs: &Vec<Pair>) -> Result<Vec<IndexedMember>>
     ensures order { IfOk result (λ order. IsKeyOrder (owned_key pairs.now.items)
         (numbers_from 0 (length pairs.now.items)) (numbers_in order.items)) }
     ensures only { OnlyNoMemory result }

@@ -2,7 +2,7 @@
 ghost use Rattle.json_grammar.specs.Proper.{IsProper};
 ghost use Rattle.json_value.specs.Denotes.{tree_of};
 ghost use Rattle.json_value.specs.Laws.{FirstElementsAreRead, FirstMembersAreRead, FirstElementsStay, FirstMembersStay};
-ghost use Rattle.json_value.specs.Laws.{PackedArrayStands, PackedObjectStands, ArrayStandsAsPlace, ObjectStandsAsPlace};
+ghost use Rattle.json_value.specs.Laws.{PackedArrayHasPosition, PackedObjectHasPosition, PositionedArrayIsPlace, PositionedObjectIsPlace};
 ghost use Rattle.json_value.specs.Laws.{OwnArrayIsNoPlace, OwnObjectIsNoPlace, PlacesOfElements, PlacesOfMembers};
 ghost use Rattle.json_value.specs.Laws.{ChangeIsThere, ChangeRefusedThere, NoChangeNowhere, StepsLeadToParts};
 
@@ -29,11 +29,11 @@ pub fn first_write_keeps_own_list()
 
 /// A container that is a place of a document is at that place if it has elements or members, and no
 /// other container is a place.
-pub fn packed_containers_stand()
-    ensures array { PackedArrayStands }
-    ensures object { PackedObjectStands }
-    ensures array_only { ArrayStandsAsPlace }
-    ensures object_only { ObjectStandsAsPlace }
+pub fn packed_containers_have_positions()
+    ensures array { PackedArrayHasPosition }
+    ensures object { PackedObjectHasPosition }
+    ensures array_only { PositionedArrayIsPlace }
+    ensures object_only { PositionedObjectIsPlace }
 {}
 
 /// A container with a list of its own is no place of a document, and its parts are where those of

@@ -9,25 +9,25 @@ ghost use Rattle.json_value.specs.Said.{place_tree};
 ghost use Rattle.json_doc_print.specs.Readings.{members};
 ghost use Rattle.json_value.specs.Rows.{object_row, pair_row, vec_row, owned, owned_items, owned_items_of, IsOwned, OwnsList};
 ghost use Rattle.json_value.specs.Room.{spare_in};
-ghost use Rattle.json_value.specs.Spots.{IsPlace, FirstPairs, PlaceMembers, member_spots, read_member_spots};
+ghost use Rattle.json_value.specs.Positions.{IsPlace, FirstPairs, PlaceMembers, member_positions, read_member_positions};
 ghost use Rattle.json_value.specs.Written.{FirstMembers};
 ghost use Rattle.json_value.specs.declared.value.Value.{Object as ObjectValue};
 ghost use Rattle.json_value.specs.Places.{member_places, object_places};
 ghost use Rattle.json_value.specs.Seen.{members_seen};
-ghost use Rattle.json_value.specs.SightParts.{object_sights, members_sights};
+ghost use Rattle.json_value.specs.TargetParts.{object_targets, members_targets};
 ghost use Rattle.json_io.specs.Errors.{OnlyNoMemory};
 
 use crate::container::{Container, Form};
 use crate::object_view::{ObjectForm, ObjectView};
 use crate::packed_view::PackedView;
 use crate::pair::{Keyed, Pair};
-use crate::place::Place;
+use crate::place::DocumentPosition;
 use crate::text::Text;
 use crate::texts::{show_object, text_writer, text_written};
 use crate::value::Value;
 use json_doc::{Doc, DocNode, DocPairs};
-use json_print::answered;
-use json_text::Result;
+use json_io::Result;
+use json_layout::answered;
 use std::alloc::Global;
 use std::rc::Rc;
 
@@ -45,7 +45,7 @@ use std::rc::Rc;
 pub type Object = Container<Pair>;
 
 // The members of a packed object, each with a key and a value of its own.
-fn unpack_pairs(alloc: Global, place: &Place) -> Result<Vec<Pair>>
+fn unpack_pairs(alloc: Global, place: &DocumentPosition) -> Result<Vec<Pair>>
     ensures pairs { IfOk result (λ v. map pair_of v.items ≡ members (place_tree place.now)) }
     ensures children { IfOk result (λ v. PlaceMembers place.now v.items) }
     ensures only { OnlyNoMemory result }
@@ -60,8 +60,8 @@ fn unpack_pairs(alloc: Global, place: &Place) -> Result<Vec<Pair>>
 fn unpack_members(alloc: Global, doc: &Rc<Doc>, mut members: DocPairs<'_>) -> Result<Vec<Pair>>
     requires { pairs_doc members ≡ doc.now.value }
     ensures pairs { IfOk result (λ v. map pair_of v.items ≡ pairs_left members.entry) }
-    ensures spots { IfOk result (λ v. map member_spots v.items
-        ≡ map (read_member_spots doc.now.value) (places_of_pairs members.entry)) }
+    ensures spots { IfOk result (λ v. map member_positions v.items
+        ≡ map (read_member_positions doc.now.value) (places_of_pairs members.entry)) }
     ensures only { OnlyNoMemory result }
 {
     let mut list = Vec::with_capacity(alloc, members.len())?;
@@ -197,7 +197,7 @@ impl Container<Keyed<Value>> {
     #[inline]
     pub fn view(&self) -> ObjectView<'_>
         ensures trees { members_seen result ≡ pairs_in self.now }
-        ensures sights { members_sights result ≡ object_sights self.now }
+        ensures sights { members_targets result ≡ object_targets self.now }
     {
         let form = match &self.form {
             Form::Empty => ObjectForm::Whole(&[]),

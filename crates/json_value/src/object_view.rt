@@ -6,8 +6,8 @@ ghost use Rattle.json_doc.specs.Seen.{view_doc, view_place, view_tree};
 ghost use Rattle.json_value.specs.Denotes.{tree_of, pair_of};
 ghost use Rattle.json_doc_print.specs.Readings.{members};
 ghost use Rattle.json_value.specs.Seen.{seen, members_seen, object_pairs, first_of, member_seen};
-ghost use Rattle.json_value.specs.SightParts.{members_at, member_sight, pair_sight, sight_members, members_sights};
-ghost use Rattle.json_value.specs.Sights.{whole_value, place_of, doc_held, sight_of};
+ghost use Rattle.json_value.specs.TargetParts.{members_at, member_target, pair_target, target_members, members_targets};
+ghost use Rattle.json_value.specs.ViewTargets.{whole_value, place_of, doc_held, view_target};
 
 use crate::packed_view::PackedView;
 use crate::pair::Pair;
@@ -37,13 +37,13 @@ pub struct ObjectView<'a> {
 }
 
 impl<'a> ObjectView<'a> {
-    ghost use Rattle.json_value.specs.Left.{members_left, members_sights_left};
+    ghost use Rattle.json_value.specs.Left.{members_left, members_targets_left};
 
     pub(crate) fn of_packed(packed: PackedView<'a>) -> Option<ObjectView<'a>>
         ensures trees { option_map members_seen result
             ≡ object_pairs (view_tree packed.entry.view) }
-        ensures sights { let p = packed.entry in option_map members_sights result
-            ≡ sight_members (place_of (view_doc p.view) (doc_held p.holder) (view_place p.view)) }
+        ensures sights { let p = packed.entry in option_map members_targets result
+            ≡ target_members (place_of (view_doc p.view) (doc_held p.holder) (view_place p.view)) }
     {
         match packed.view.get_type() {
             JsonType::Object => Some(ObjectView {
@@ -55,7 +55,7 @@ impl<'a> ObjectView<'a> {
 
     pub(crate) fn of_value(value: &'a Value) -> Option<ObjectView<'a>>
         ensures trees { option_map members_seen result ≡ object_pairs (tree_of value.now) }
-        ensures sights { option_map members_sights result ≡ sight_members (whole_value value.now) }
+        ensures sights { option_map members_targets result ≡ target_members (whole_value value.now) }
     {
         match value {
             Value::Object(object) => Some(object.view()),
@@ -86,7 +86,7 @@ impl<'a> ObjectView<'a> {
     #[inline]
     pub fn pair(self, i: usize) -> Option<(&'a str, View<'a>)>
         ensures tree { option_map member_seen result ≡ slice_get (members_seen self.entry) i }
-        ensures sight { option_map member_sight result ≡ slice_get (members_sights self.entry) i }
+        ensures target { option_map member_target result ≡ slice_get (members_targets self.entry) i }
     {
         match self.form {
             ObjectForm::Packed(packed) => packed_pair(packed, i),
@@ -98,8 +98,8 @@ impl<'a> ObjectView<'a> {
     pub fn get_key_value(self, key: &str) -> Option<(&'a str, View<'a>)>
         ensures tree { option_map member_seen result
             ≡ first_of key.now (members_seen self.entry) }
-        ensures sight { option_map member_sight result
-            ≡ first_of key.now (members_sights self.entry) }
+        ensures target { option_map member_target result
+            ≡ first_of key.now (members_targets self.entry) }
     {
         for (found, value) in self.iter() {
             if found == key {
@@ -113,8 +113,8 @@ impl<'a> ObjectView<'a> {
     pub fn get(self, key: &str) -> Option<View<'a>>
         ensures tree { option_map seen result ≡ option_map (λ p. p.1)
             (first_of key.now (members_seen self.entry)) }
-        ensures sight { option_map sight_of result
-            ≡ option_map (λ p. p.1) (first_of key.now (members_sights self.entry)) }
+        ensures target { option_map view_target result
+            ≡ option_map (λ p. p.1) (first_of key.now (members_targets self.entry)) }
     {
         match self.get_key_value(key) {
             Some((_, value)) => Some(value),
@@ -126,7 +126,7 @@ impl<'a> ObjectView<'a> {
     #[inline]
     pub fn iter(self) -> Iter<'a>
         ensures trees { members_left result ≡ members_seen self.entry }
-        ensures sights { members_sights_left result ≡ members_sights self.entry }
+        ensures sights { members_targets_left result ≡ members_targets self.entry }
     {
         let left = match self.form {
             ObjectForm::Packed(packed) => MembersLeft::of_packed(packed),
@@ -148,8 +148,8 @@ fn packed_len(view: DocView<'_>) -> usize
 fn packed_pair(packed: PackedView<'_>, i: usize) -> Option<(&str, View<'_>)>
     ensures tree { option_map member_seen result
         ≡ slice_get (members (view_tree packed.entry.view)) i }
-    ensures sight { let p = packed.entry in let ps = members (view_tree p.view) in
-        option_map member_sight result
+    ensures target { let p = packed.entry in let ps = members (view_tree p.view) in
+        option_map member_target result
         ≡ slice_get (members_at (view_doc p.view) (doc_held p.holder) (view_place p.view) ps) i }
 {
     match packed.view.key(i) {
@@ -166,7 +166,7 @@ fn packed_pair(packed: PackedView<'_>, i: usize) -> Option<(&str, View<'_>)>
 
 fn whole_pair(pairs: &[Pair], i: usize) -> Option<(&str, View<'_>)>
     ensures tree { option_map member_seen result ≡ slice_get (map pair_of pairs.now) i }
-    ensures sight { option_map member_sight result ≡ slice_get (map pair_sight pairs.now) i }
+    ensures target { option_map member_target result ≡ slice_get (map pair_target pairs.now) i }
 {
     if i < pairs.len() {
         Some((pairs[i].key.as_str(), pairs[i].value.view()))
@@ -207,13 +207,13 @@ pub(crate) struct PackedMembers<'a> {
 
 impl<'a> PackedMembers<'a> {
     ghost use Rattle.std.specs.Iterator.{YieldsFirstBy};
-    ghost use Rattle.json_value.specs.Left.{packed_member_sights};
+    ghost use Rattle.json_value.specs.Left.{packed_member_targets};
 
     #[inline]
     fn next(&mut self) -> Option<(&'a str, View<'a>)>
         ensures tree { YieldsFirstBy member_seen (λ p. pairs_left p.members)
             self.old result self.new }
-        ensures sight { YieldsFirstBy member_sight packed_member_sights self.old result self.new }
+        ensures target { YieldsFirstBy member_target packed_member_targets self.old result self.new }
     {
         match self.members.next() {
             Some((key, value)) => {
@@ -226,14 +226,14 @@ impl<'a> PackedMembers<'a> {
 }
 
 impl<'a> MembersLeft<'a> {
-    ghost use Rattle.json_value.specs.Left.{pairs_to_come, member_sights_to_come};
+    ghost use Rattle.json_value.specs.Left.{pairs_to_come, remaining_member_targets};
 
     // The members of a place of a document; none where that is no object.
     #[inline]
     fn of_packed(packed: PackedView<'a>) -> MembersLeft<'a>
         ensures trees { pairs_to_come result ≡ members (view_tree packed.entry.view) }
         ensures sights { let p = packed.entry in let ps = members (view_tree p.view) in
-            member_sights_to_come result
+            remaining_member_targets result
             ≡ members_at (view_doc p.view) (doc_held p.holder) (view_place p.view) ps }
     {
         match packed.view.node() {

@@ -6,17 +6,17 @@ ghost use Rattle.json_doc.specs.Docs.{doc_tree};
 ghost use Rattle.json_doc.specs.Seen.{view_doc, view_place, view_tree};
 ghost use Rattle.json_doc.specs.Left.{children_left, pairs_left};
 ghost use Rattle.json_value.specs.Denotes.{tree_of, pair_of};
-ghost use Rattle.json_value.specs.Spots.{spot_of};
+ghost use Rattle.json_value.specs.Positions.{doc_position};
 ghost use Rattle.json_io.specs.Errors.{OnlyNoMemory};
 
 use crate::container::{Container, Form};
 use crate::literal::Literal;
 use crate::pair::{Keyed, Pair};
-use crate::place::Place;
+use crate::place::DocumentPosition;
 use crate::text::Text;
 use crate::value::Value;
 use json_doc::{Doc, DocChildren, DocNode, DocPairs, DocView};
-use json_text::Result;
+use json_io::Result;
 use std::alloc::Global;
 use std::rc::Rc;
 
@@ -28,8 +28,8 @@ pub(crate) struct PackedView<'a> {
 }
 
 impl<'a> PackedView<'a> {
-    ghost use Rattle.json_value.specs.Sights.{doc_held};
-    ghost use Rattle.json_value.specs.ViewSpots.{held_spot};
+    ghost use Rattle.json_value.specs.ViewTargets.{doc_held};
+    ghost use Rattle.json_value.specs.ViewPositions.{held_position};
 
     // A place of a document alone.
     #[inline]
@@ -42,7 +42,7 @@ impl<'a> PackedView<'a> {
 
     // A place that a value holds.
     #[inline]
-    pub(crate) fn of_place(place: &'a Place) -> PackedView<'a>
+    pub(crate) fn of_place(place: &'a DocumentPosition) -> PackedView<'a>
         ensures tree { view_tree result.view ≡ doc_tree place.now.doc.value place.now.at }
         ensures doc { view_doc result.view ≡ place.now.doc.value }
         ensures at { view_place result.view ≡ place.now.at }
@@ -70,8 +70,8 @@ impl<'a> PackedView<'a> {
     // A value of the tree that is seen: of the same document, if a value holds it, else a copy.
     pub(crate) fn to_value(self, alloc: Global) -> Result<Value>
         ensures tree { IfOk result (λ v. tree_of v ≡ view_tree self.entry.view) }
-        ensures spot { IfOk result (λ v. spot_of v
-            ≡ held_spot self.entry.holder (view_place self.entry.view)) }
+        ensures position { IfOk result (λ v. doc_position v
+            ≡ held_position self.entry.holder (view_place self.entry.view)) }
         ensures only { OnlyNoMemory result }
     {
         match self.holder {
@@ -84,7 +84,7 @@ impl<'a> PackedView<'a> {
 #[cycle(copied)]
 fn copy_document(alloc: Global, view: DocView<'_>) -> Result<Value>
     ensures tree { IfOk result (λ v. tree_of v ≡ view_tree view.entry) }
-    ensures spot { IfOk result (λ v. spot_of v ≡ None) }
+    ensures position { IfOk result (λ v. doc_position v ≡ None) }
     ensures only { OnlyNoMemory result }
 {
     match view.node() {

@@ -15,7 +15,7 @@ ghost use Rattle.json_io.specs.Errors.{OnlyNoMemory};
 
 use crate::text::Text;
 use crate::value::Value;
-use json_text::Result;
+use json_io::Result;
 use std::alloc::Global;
 
 /// A key and what it names (RFC 8259, section 4). A `Pair` names a value.

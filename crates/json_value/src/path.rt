@@ -5,7 +5,7 @@ ghost use Rattle.json_io.specs.Errors.{OnlyNoMemory};
 
 use crate::text::Text;
 use crate::value::Value;
-use json_text::Result;
+use json_io::Result;
 use std::alloc::Global;
 
 /// A step into a value.

@@ -12,10 +12,10 @@ ghost use Rattle.json_value.specs.Steps.{tree_at};
 ghost use Rattle.json_value.specs.Touched.{Along, Same, KeptAlong};
 ghost use Rattle.json_value.specs.declared.value.Value.{Value};
 
-use crate::container_mut::{ContainerMut, child_of};
+use crate::container_mut::{ContainerMut, child_mut};
 use crate::path::PointerNode;
 use crate::value::Value;
-use json_text::{ErrorCode, Result};
+use json_io::{ErrorCode, Result};
 use std::alloc::Global;
 
 /// What has places to which paths lead, and lends them to be changed.
@@ -43,7 +43,7 @@ pub trait Places {
             (λ n w. IfOk result (λ v. PutsAtPath (steps_of path.now) v.now w (held self.old)
             (held n)))
             (λ n. PutsNothing (steps_of path.now) (held self.old) (held n))) }
-        ensures stands { LeadsTo (steps_of path.now) (tree_of (held self.old)) result };
+        ensures leads { LeadsTo (steps_of path.now) (tree_of (held self.old)) result };
 }
 
 impl Places for Value {
@@ -102,7 +102,7 @@ fn at_end(path: &[PointerNode]) -> bool
     path.is_empty()
 }
 
-fn rest_of(path: &[PointerNode]) -> &[PointerNode]
+fn untaken(path: &[PointerNode]) -> &[PointerNode]
     requires { 0 < length path.now }
     ensures { result.now ≡ drop 1 path.now }
 {
@@ -120,10 +120,10 @@ fn first_place<'v, S: ContainerMut>(
         (λ n w. PutsAt (step_of (first_node path.now) ∷ []) result w
         (S.held container.old) (S.held n))
         (λ n. PutsNothing (step_of (first_node path.now) ∷ []) (S.held container.old) (S.held n))) }
-    ensures stands { LeadsTo (step_of (first_node path.now) ∷ [])
+    ensures leads { LeadsTo (step_of (first_node path.now) ∷ [])
         (tree_of (S.held container.old)) result }
 {
-    child_of(container, alloc, &path[0])
+    child_mut(container, alloc, &path[0])
 }
 
 // The place to which a path leads.
@@ -133,13 +133,13 @@ pub(crate) fn reach_in<'v>(
     path: &[PointerNode],
 ) -> Result<&'v mut Value>
     ensures* writes_back { sem 𝓛 (LendsAlong value.entry (steps_of path.now) result) }
-    ensures stands { LeadsTo (steps_of path.now) (tree_of value.old) result }
+    ensures leads { LeadsTo (steps_of path.now) (tree_of value.old) result }
 {
     if at_end(path) {
         return Ok(value);
     }
     match first_place(value, alloc, path) {
-        Ok(child) => reach_in(child, alloc, rest_of(path)),
+        Ok(child) => reach_in(child, alloc, untaken(path)),
         Err(error) => Err(error),
     }
 }

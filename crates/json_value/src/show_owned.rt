@@ -10,9 +10,9 @@ use crate::container::Form;
 use crate::pair::Pair;
 use crate::text::Text;
 use crate::value::Value;
-use json_doc_print::{Showed, show_bool, show_elements, show_members, show_number};
-use json_print::{BufferedWriter, Layout, show_piece, show_text};
-use json_text::{Sink, SinkError};
+use json_doc_print::{show_bool, show_elements, show_members, show_number};
+use json_io::{Sink, SinkError, SinkResult};
+use json_layout::{BufferedWriter, Layout, show_piece, show_text};
 
 /// Writes the text of the value's tree, with `level` containers around it.
 #[cycle(shown_value)]
@@ -21,7 +21,7 @@ pub(crate) fn show_value<W: Sink, L: Layout>(
     layout: L,
     level: usize,
     out: &mut BufferedWriter<W>,
-) -> Showed
+) -> SinkResult
     ensures { Shows level (⟦<BufferedWriter<W> as Sink>⟧.state out.old)
         (⟦<BufferedWriter<W> as Sink>⟧.state out.new)
         (shown (L.indent layout) level (tree_of value.now)) result }
@@ -52,7 +52,7 @@ pub(crate) fn show_key<W: Sink, L: Layout>(
     level: usize,
     first: bool,
     out: &mut BufferedWriter<W>,
-) -> Showed
+) -> SinkResult
     ensures { Adds (⟦<BufferedWriter<W> as Sink>⟧.state out.old)
         (⟦<BufferedWriter<W> as Sink>⟧.state out.new)
         (key_shown (L.indent layout) level first (text_bytes key.now)) result }
@@ -70,7 +70,7 @@ fn show_owned_element<W: Sink, L: Layout>(
     level: usize,
     first: bool,
     out: &mut BufferedWriter<W>,
-) -> Showed
+) -> SinkResult
     ensures { Shows level (⟦<BufferedWriter<W> as Sink>⟧.state out.old)
         (⟦<BufferedWriter<W> as Sink>⟧.state out.new)
         (lead (L.indent layout) level first ++ shown (L.indent layout) level
@@ -87,7 +87,7 @@ pub(crate) fn show_values<W: Sink, L: Layout>(
     layout: L,
     level: usize,
     out: &mut BufferedWriter<W>,
-) -> Showed
+) -> SinkResult
     ensures { Shows level (⟦<BufferedWriter<W> as Sink>⟧.state out.old)
         (⟦<BufferedWriter<W> as Sink>⟧.state out.new)
         (shown (L.indent layout) level (list (list_trees (map tree_of values.now.items)))) result }
@@ -111,7 +111,7 @@ pub(crate) fn show_owned_pairs<W: Sink, L: Layout>(
     layout: L,
     level: usize,
     out: &mut BufferedWriter<W>,
-) -> Showed
+) -> SinkResult
     ensures { Shows level (⟦<BufferedWriter<W> as Sink>⟧.state out.old)
         (⟦<BufferedWriter<W> as Sink>⟧.state out.new)
         (shown (L.indent layout) level (pairs (list_pairs (map pair_of values.now.items)))) result }

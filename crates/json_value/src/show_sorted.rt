@@ -14,10 +14,10 @@ use crate::pair::Pair;
 use crate::show_owned::show_key;
 use crate::value::Value;
 use json_doc_print::{
-    Showed, SortedLayout, show_bool, show_number, show_sorted_elements, show_sorted_members,
+    SortedLayout, show_bool, show_number, show_sorted_elements, show_sorted_members,
 };
-use json_print::{BufferedWriter, Layout, show_piece, show_text};
-use json_text::{Sink, SinkError};
+use json_io::{Sink, SinkError, SinkResult};
+use json_layout::{BufferedWriter, Layout, show_piece, show_text};
 
 /// Writes the text of the value's tree, sorted, with `level` containers around it.
 #[cycle(shown_sorted_value)]
@@ -26,7 +26,7 @@ pub(crate) fn show_sorted_value<W: Sink, L: Layout>(
     layout: SortedLayout<L>,
     level: usize,
     out: &mut BufferedWriter<W>,
-) -> Showed
+) -> SinkResult
     ensures { ShowsOrRunsOut (⟦<BufferedWriter<W> as Sink>⟧.state out.old)
         (⟦<BufferedWriter<W> as Sink>⟧.state out.new)
         (shown (L.indent layout.inner) level (sorted (tree_of value.now))) result }
@@ -58,7 +58,7 @@ fn show_sorted_item<W: Sink, L: Layout>(
     level: usize,
     first: bool,
     out: &mut BufferedWriter<W>,
-) -> Showed
+) -> SinkResult
     ensures { ShowsOrRunsOut (⟦<BufferedWriter<W> as Sink>⟧.state out.old)
         (⟦<BufferedWriter<W> as Sink>⟧.state out.new)
         (lead (L.indent layout.inner) level first ++ shown (L.indent layout.inner) level
@@ -75,7 +75,7 @@ fn show_sorted_values<W: Sink, L: Layout>(
     layout: SortedLayout<L>,
     level: usize,
     out: &mut BufferedWriter<W>,
-) -> Showed
+) -> SinkResult
     ensures { ShowsOrRunsOut (⟦<BufferedWriter<W> as Sink>⟧.state out.old)
         (⟦<BufferedWriter<W> as Sink>⟧.state out.new)
         (shown (L.indent layout.inner) level
@@ -100,7 +100,7 @@ fn show_sorted_pairs<W: Sink, L: Layout>(
     layout: SortedLayout<L>,
     level: usize,
     out: &mut BufferedWriter<W>,
-) -> Showed
+) -> SinkResult
     ensures { ShowsOrRunsOut (⟦<BufferedWriter<W> as Sink>⟧.state out.old)
         (⟦<BufferedWriter<W> as Sink>⟧.state out.new)
         (shown (L.indent layout.inner) level
@@ -120,7 +120,7 @@ fn show_in_place<W: Sink, L: Layout>(
     layout: SortedLayout<L>,
     level: usize,
     out: &mut BufferedWriter<W>,
-) -> Showed
+) -> SinkResult
     requires { NeverFall (list_pairs (map pair_of values.now.items)) }
     ensures { ShowsOrRunsOut (⟦<BufferedWriter<W> as Sink>⟧.state out.old)
         (⟦<BufferedWriter<W> as Sink>⟧.state out.new)
@@ -147,7 +147,7 @@ fn show_by_numbers<W: Sink, L: Layout>(
     layout: SortedLayout<L>,
     level: usize,
     out: &mut BufferedWriter<W>,
-) -> Showed
+) -> SinkResult
     ensures { ShowsOrRunsOut (⟦<BufferedWriter<W> as Sink>⟧.state out.old)
         (⟦<BufferedWriter<W> as Sink>⟧.state out.new)
         (shown (L.indent layout.inner) level

@@ -10,9 +10,9 @@ use crate::array::Array;
 use crate::container::Form;
 use crate::object::Object;
 use crate::show_owned::{show_owned_pairs, show_values};
-use json_doc_print::{Showed, show_elements, show_members};
-use json_print::{BufferedWriter, OneLine, show_piece};
-use json_text::{Result, Sink, VecSink, flush_all};
+use json_doc_print::{show_elements, show_members};
+use json_io::{Result, Sink, SinkResult, VecSink, flush_all};
+use json_layout::{BufferedWriter, OneLine, show_piece};
 use std::alloc::Global;
 
 /// A writer into memory that has gained nothing.
@@ -42,7 +42,7 @@ pub(crate) fn text_written(out: BufferedWriter<VecSink>) -> Result<String>
 }
 
 /// Writes the compact text of an array.
-pub(crate) fn show_array<W: Sink>(array: &Array, out: &mut BufferedWriter<W>) -> Showed
+pub(crate) fn show_array<W: Sink>(array: &Array, out: &mut BufferedWriter<W>) -> SinkResult
     ensures { Shows 0 (⟦<BufferedWriter<W> as Sink>⟧.state out.old)
         (⟦<BufferedWriter<W> as Sink>⟧.state out.new)
         (shown None 0 (list (list_trees (list_in array.now)))) result }
@@ -55,7 +55,7 @@ pub(crate) fn show_array<W: Sink>(array: &Array, out: &mut BufferedWriter<W>) ->
 }
 
 /// Writes the compact text of an object.
-pub(crate) fn show_object<W: Sink>(object: &Object, out: &mut BufferedWriter<W>) -> Showed
+pub(crate) fn show_object<W: Sink>(object: &Object, out: &mut BufferedWriter<W>) -> SinkResult
     ensures { Shows 0 (⟦<BufferedWriter<W> as Sink>⟧.state out.old)
         (⟦<BufferedWriter<W> as Sink>⟧.state out.new)
         (shown None 0 (pairs (list_pairs (pairs_in object.now)))) result }

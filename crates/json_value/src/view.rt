@@ -3,16 +3,16 @@ ghost use Rattle.std.specs.Prelude.{◌≡◌, None, Some, option_map, IfSome, �
 ghost use Rattle.json_grammar.specs.Tree.{num, null, tokens};
 ghost use Rattle.json_io.specs.Errors.{no_memory, OnlyNoMemory};
 ghost use Rattle.json_number.specs.Numbers.{value_of, text_of_number};
-ghost use Rattle.json_doc.specs.Readings.{type_of, bool_of, integer_of, literal_of, string_of};
+ghost use Rattle.json_doc.specs.Readings.{type_of, bool_of, integer_in_tree, literal_of, string_of};
 ghost use Rattle.json_doc.specs.Seen.{view_doc, view_place, view_tree};
 ghost use Rattle.json_value.specs.Denotes.{tree_of};
 ghost use Rattle.json_value.specs.Doubles.{double_in};
 ghost use Rattle.json_value.specs.Places.{places_in};
 ghost use Rattle.json_value.specs.Seen.{seen, elements_seen, members_seen, list_of, object_pairs};
-ghost use Rattle.json_value.specs.SightParts.{sight_elements, elements_sights, sight_members, members_sights, sight_after, sight_along, or_nowhere};
-ghost use Rattle.json_value.specs.Sights.{sight_of, place_of, nowhere};
-ghost use Rattle.json_value.specs.Spots.{spot_in, spot_of};
-ghost use Rattle.json_value.specs.ViewSpots.{spot_seen, spot_kept, places_kept};
+ghost use Rattle.json_value.specs.TargetParts.{target_elements, elements_targets, target_members, members_targets, target_after, target_along, or_nowhere};
+ghost use Rattle.json_value.specs.ViewTargets.{view_target, place_of, nowhere};
+ghost use Rattle.json_value.specs.Positions.{position_in, doc_position};
+ghost use Rattle.json_value.specs.ViewPositions.{view_position, view_value_position, places_kept};
 ghost use Rattle.json_model.specs.Edit.{key_step, index_step};
 ghost use Rattle.json_model.specs.Sort.{sorted};
 ghost use Rattle.json_value.specs.Edits.{steps_of};
@@ -20,7 +20,7 @@ ghost use Rattle.json_value.specs.Steps.{child, tree_at, tree_or_null};
 ghost use Rattle.json_doc.specs.Docs.{doc_cells, doc_tree};
 ghost use Rattle.json_model.specs.Print.{shown};
 ghost use Rattle.json_layout.specs.Showing.{RanOut, Shows};
-ghost use Rattle.json_print.specs.Standing.{AcceptsValue};
+ghost use Rattle.json_print.specs.ExpectedEvents.{AcceptsValue};
 ghost use Rattle.json_layout.specs.TextWriting.{WritesText};
 ghost use Rattle.json_print.specs.Given.{given_tokens};
 ghost use Rattle.json_doc_print.specs.Emitting.{Emits, Walks, tree_given};
@@ -37,12 +37,13 @@ use crate::show_sorted::show_sorted_value;
 use crate::value::Value;
 use json_doc::{Doc, DocView, JsonType};
 use json_doc_print::{
-    Showed, SortedLayout, Stopped, Walked, emit_document, show_document, show_sorted_document,
-    taken,
+    EventsFailed, EventsResult, SortedLayout, emit_document, events_result, show_document,
+    show_sorted_document,
 };
+use json_io::{Result, Sink, SinkResult};
+use json_layout::{BufferedWriter, Layout, answered, show_piece};
 use json_number::{JsonNumberTrait, Number, f64_of};
-use json_print::{BufferedWriter, Events, Layout, answered, show_piece};
-use json_text::{Result, Sink};
+use json_print::Events;
 use std::alloc::Global;
 
 #[derive(Clone, Copy)]
@@ -74,11 +75,11 @@ impl<'a> View<'a> {
     #[inline]
     pub fn packed(view: DocView<'a>) -> View<'a>
         ensures tree { seen result ≡ view_tree view.entry }
-        ensures sight { sight_of result
+        ensures target { view_target result
             ≡ place_of (view_doc view.entry) None (view_place view.entry) }
-        ensures spot { spot_seen result
-            ≡ Some (spot_in (view_doc view.entry) (view_place view.entry)) }
-        ensures kept { spot_kept result ≡ None }
+        ensures position { view_position result
+            ≡ Some (position_in (view_doc view.entry) (view_place view.entry)) }
+        ensures kept { view_value_position result ≡ None }
     {
         View {
             form: ViewForm::Packed(PackedView::of_document(view)),
@@ -113,7 +114,7 @@ impl<'a> View<'a> {
     /// another kind.
     #[inline]
     pub fn as_number(self) -> Option<Number>
-        ensures value { option_map value_of result ≡ integer_of (seen self.entry) }
+        ensures value { option_map value_of result ≡ integer_in_tree (seen self.entry) }
         ensures text { IfSome result (λ n. seen self.entry ≡ num (text_of_number n)) }
     {
         match self.form {
@@ -172,7 +173,7 @@ impl<'a> View<'a> {
     #[inline]
     pub fn as_array(self) -> Option<ArrayView<'a>>
         ensures trees { option_map elements_seen result ≡ list_of (seen self.entry) }
-        ensures sights { option_map elements_sights result ≡ sight_elements (sight_of self.entry) }
+        ensures sights { option_map elements_targets result ≡ target_elements (view_target self.entry) }
     {
         match self.form {
             ViewForm::Packed(packed) => ArrayView::of_packed(packed),
@@ -185,7 +186,7 @@ impl<'a> View<'a> {
     #[inline]
     pub fn as_object(self) -> Option<ObjectView<'a>>
         ensures trees { option_map members_seen result ≡ object_pairs (seen self.entry) }
-        ensures sights { option_map members_sights result ≡ sight_members (sight_of self.entry) }
+        ensures sights { option_map members_targets result ≡ target_members (view_target self.entry) }
     {
         match self.form {
             ViewForm::Packed(packed) => ObjectView::of_packed(packed),
@@ -197,7 +198,7 @@ impl<'a> View<'a> {
     // Null, which is at no place.
     fn null() -> View<'a>
         ensures tree { seen result ≡ null }
-        ensures sight { sight_of result ≡ nowhere }
+        ensures target { view_target result ≡ nowhere }
     {
         View {
             form: ViewForm::Absent,
@@ -206,8 +207,8 @@ impl<'a> View<'a> {
 
     fn member(self, key: &str) -> Option<View<'a>>
         ensures tree { option_map seen result ≡ child (key_step key.now) (seen self.entry) }
-        ensures sight { option_map sight_of result
-            ≡ sight_after (key_step key.now) (sight_of self.entry) }
+        ensures target { option_map view_target result
+            ≡ target_after (key_step key.now) (view_target self.entry) }
     {
         match self.as_object() {
             Some(object) => object.get(key),
@@ -217,8 +218,8 @@ impl<'a> View<'a> {
 
     fn element(self, i: usize) -> Option<View<'a>>
         ensures tree { option_map seen result ≡ child (index_step i) (seen self.entry) }
-        ensures sight { option_map sight_of result
-            ≡ sight_after (index_step i) (sight_of self.entry) }
+        ensures target { option_map view_target result
+            ≡ target_after (index_step i) (view_target self.entry) }
     {
         match self.as_array() {
             Some(array) => array.get(i),
@@ -230,8 +231,8 @@ impl<'a> View<'a> {
     /// there is none.
     pub fn get<I: Index>(self, index: I) -> Option<View<'a>>
         ensures tree { option_map seen result ≡ child (I.step index) (seen self.entry) }
-        ensures sight { option_map sight_of result
-            ≡ sight_after (I.step index) (sight_of self.entry) }
+        ensures target { option_map view_target result
+            ≡ target_after (I.step index) (view_target self.entry) }
     {
         if let Some(key) = index.as_key() {
             return self.member(key);
@@ -245,8 +246,8 @@ impl<'a> View<'a> {
     /// Returns the value at the end of the steps, or `None` if one of them leads nowhere.
     pub fn pointer(self, path: &[PointerNode]) -> Option<View<'a>>
         ensures tree { option_map seen result ≡ tree_at (steps_of path.now) (seen self.entry) }
-        ensures sight { option_map sight_of result
-            ≡ sight_along (steps_of path.now) (sight_of self.entry) }
+        ensures target { option_map view_target result
+            ≡ target_along (steps_of path.now) (view_target self.entry) }
     {
         let mut here = self;
         for node in path {
@@ -259,8 +260,8 @@ impl<'a> View<'a> {
     /// is none.
     pub fn at<I: Index>(self, index: I) -> View<'a>
         ensures tree { seen result ≡ tree_or_null (child (I.step index) (seen self.entry)) }
-        ensures sight { sight_of result
-            ≡ or_nowhere (sight_after (I.step index) (sight_of self.entry)) }
+        ensures target { view_target result
+            ≡ or_nowhere (target_after (I.step index) (view_target self.entry)) }
     {
         match self.get(index) {
             Some(found) => found,
@@ -271,7 +272,7 @@ impl<'a> View<'a> {
     /// Returns the document and the place in it if what is seen is a place of a document, or a
     /// value that is one, else `None`. The value at that place is what is seen.
     pub fn place(self) -> Option<(&'a Doc, u32)>
-        ensures spot { option_map (λ p. spot_in p.0.now p.1) result ≡ spot_seen self.entry }
+        ensures position { option_map (λ p. position_in p.0.now p.1) result ≡ view_position self.entry }
         ensures within { IfSome result (λ p. p.1 < length (doc_cells p.0.now)) }
         ensures tree { IfSome result (λ p. doc_tree p.0.now p.1 ≡ seen self.entry) }
     {
@@ -287,7 +288,7 @@ impl<'a> View<'a> {
     /// the same document, of a document alone a copy. Fails with `NoMemory` if memory runs out.
     pub fn to_value(self, alloc: Global) -> Result<Value>
         ensures tree { IfOk result (λ v. tree_of v ≡ seen self.entry) }
-        ensures spot { IfOk result (λ v. spot_of v ≡ spot_kept self.entry) }
+        ensures position { IfOk result (λ v. doc_position v ≡ view_value_position self.entry) }
         ensures places { IfOk result (λ v. IfSome (places_kept self.entry)
             (λ places. places_in v ≡ places)) }
         ensures only { OnlyNoMemory result }
@@ -303,7 +304,7 @@ impl<'a> View<'a> {
     /// first that meets an error, which is returned. Where the events had returned an error it is
     /// returned again, and nothing changes; else a value has to be allowed there.
     pub fn emit<E: Events>(self, out: &mut E) -> Result<()>
-        requires { AcceptsValue (E.failed out.old) (E.stand (E.state out.old)) }
+        requires { AcceptsValue (E.failed out.old) (E.token_state (E.state out.old)) }
         ensures given { Emits E.after E.stopped (E.state out.old) (E.state out.new)
             (E.failed out.old) (E.failed out.new) (tree_given (seen self.entry)) result }
         ensures tokens { given_tokens (tree_given (seen self.entry)) ≡ tokens (seen self.entry) }
@@ -311,7 +312,7 @@ impl<'a> View<'a> {
         match walk(self, out) {
             Ok(()) => Ok(()),
             // which gives nothing, and answers the error that was met
-            Err(Stopped) => out.null(),
+            Err(EventsFailed) => out.null(),
         }
     }
 
@@ -353,7 +354,7 @@ impl<'a> View<'a> {
     }
 }
 
-fn show<W: Sink, L: Layout>(view: View<'_>, layout: L, out: &mut BufferedWriter<W>) -> Showed
+fn show<W: Sink, L: Layout>(view: View<'_>, layout: L, out: &mut BufferedWriter<W>) -> SinkResult
     ensures { Shows 0 (⟦<BufferedWriter<W> as Sink>⟧.state out.old)
         (⟦<BufferedWriter<W> as Sink>⟧.state out.new)
         (shown (L.indent layout) 0 (seen view.entry)) result }
@@ -369,7 +370,7 @@ fn show_sorted<W: Sink, L: Layout>(
     view: View<'_>,
     layout: SortedLayout<L>,
     out: &mut BufferedWriter<W>,
-) -> Showed
+) -> SinkResult
     ensures { ShowsOrRunsOut (⟦<BufferedWriter<W> as Sink>⟧.state out.old)
         (⟦<BufferedWriter<W> as Sink>⟧.state out.new)
         (shown (L.indent layout.inner) 0 (sorted (seen view.entry))) result }
@@ -381,15 +382,15 @@ fn show_sorted<W: Sink, L: Layout>(
     }
 }
 
-fn walk<E: Events>(view: View<'_>, out: &mut E) -> Walked
-    requires { AcceptsValue (E.failed out.old) (E.stand (E.state out.old)) }
+fn walk<E: Events>(view: View<'_>, out: &mut E) -> EventsResult
+    requires { AcceptsValue (E.failed out.old) (E.token_state (E.state out.old)) }
     ensures { Walks E.after E.stopped (E.state out.old) (E.state out.new)
         (E.failed out.old) (E.failed out.new) (tree_given (seen view.entry)) result }
 {
     match view.form {
         ViewForm::Packed(packed) => emit_document(packed.view, out),
         ViewForm::Whole(value) => emit_value(value, out),
-        ViewForm::Absent => taken(out.null()),
+        ViewForm::Absent => events_result(out.null()),
     }
 }
 
@@ -416,7 +417,7 @@ fn value_bool(value: &Value) -> Option<bool>
 }
 
 fn value_number(value: &Value) -> Option<Number>
-    ensures value { option_map value_of result ≡ integer_of (tree_of value.now) }
+    ensures value { option_map value_of result ≡ integer_in_tree (tree_of value.now) }
     ensures text { IfSome result (λ n. tree_of value.now ≡ num (text_of_number n)) }
 {
     match value {

@@ -1,6 +1,6 @@
 // First writes of packed containers, copies, and edits.
 use crate::looks::{Call, Row, assert_none, wrong_row};
-use crate::standing::element_stands;
+use crate::positions::element_stands;
 use crate::writing::set;
 use json_doc::Doc;
 use json_fixtures::{copied, is_made, key, list_in, or_null, pairs_in, read, said, whole};
@@ -74,7 +74,7 @@ fn write_pairs(value: &mut Value, alloc: Global) -> bool {
     }
 }
 
-fn refusal(applied: Result<()>) -> Option<ErrorCode> {
+fn refused_code(applied: Result<()>) -> Option<ErrorCode> {
     match applied {
         Ok(()) => None,
         Err(error) => Some(error.code),
@@ -97,7 +97,7 @@ fn push(value: &mut Value, alloc: Global, path: Result<Path>, number: u64) -> Op
                 path,
                 value: value_of_number,
             };
-            refusal(value.apply(alloc, &edit))
+            refused_code(value.apply(alloc, &edit))
         }
         Err(error) => Some(error.code),
     }

@@ -29,11 +29,11 @@ mod paths;
 #[cfg(test)]
 mod places;
 #[cfg(test)]
+mod positions;
+#[cfg(test)]
 mod printed;
 #[cfg(test)]
 mod readings;
-#[cfg(test)]
-mod standing;
 #[cfg(test)]
 mod views;
 #[cfg(test)]

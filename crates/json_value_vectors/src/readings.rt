@@ -122,7 +122,7 @@ fn is_greatest(value: &Value) -> bool {
 
 // What is read of a value.
 #[derive(Clone, Copy)]
-enum Read {
+enum Reading {
     Boolean(bool),
     NoBoolean,
     Scalar(Option<&'static str>, Option<bool>, Option<u8>),
@@ -137,50 +137,50 @@ fn number_of(number: Option<u8>) -> Option<Number> {
     }
 }
 
-impl Call for Read {
+impl Call for Reading {
     fn is_right(self, value: &mut Value, _alloc: Global) -> bool {
         match self {
-            Read::Boolean(boolean) => are_boolean(value, boolean),
-            Read::NoBoolean => !value.is_true() && !value.is_false(),
-            Read::Scalar(text, boolean, number) => {
+            Reading::Boolean(boolean) => are_boolean(value, boolean),
+            Reading::NoBoolean => !value.is_true() && !value.is_false(),
+            Reading::Scalar(text, boolean, number) => {
                 are_scalar(value, text, boolean, number_of(number))
             }
-            Read::Greatest => is_greatest(value),
-            Read::Integer(number) => value.as_u64().is_none() && value.as_i64() == number,
+            Reading::Greatest => is_greatest(value),
+            Reading::Integer(number) => value.as_u64().is_none() && value.as_i64() == number,
         }
     }
 }
 
-const SCALARS: &[MadeRow<Read>] = &[
-    ("true", Item::Boolean(true), Read::Boolean(true)),
-    ("false", Item::Boolean(false), Read::Boolean(false)),
-    ("null is no boolean", Item::Null, Read::NoBoolean),
+const SCALARS: &[MadeRow<Reading>] = &[
+    ("true", Item::Boolean(true), Reading::Boolean(true)),
+    ("false", Item::Boolean(false), Reading::Boolean(false)),
+    ("null is no boolean", Item::Null, Reading::NoBoolean),
     (
         "a text",
         Item::Text("a"),
-        Read::Scalar(Some("a"), None, None),
+        Reading::Scalar(Some("a"), None, None),
     ),
     (
         "a truth",
         Item::Boolean(true),
-        Read::Scalar(None, Some(true), None),
+        Reading::Scalar(None, Some(true), None),
     ),
     (
         "a number",
         Item::Number(7),
-        Read::Scalar(None, None, Some(7)),
+        Reading::Scalar(None, None, Some(7)),
     ),
     (
         "the greatest integer",
         Item::Number(GREATEST),
-        Read::Greatest,
+        Reading::Greatest,
     ),
     (
         "an integer below zero",
         Item::Negative(-7),
-        Read::Integer(Some(-7)),
+        Reading::Integer(Some(-7)),
     ),
-    ("null is no integer", Item::Null, Read::Integer(None)),
+    ("null is no integer", Item::Null, Reading::Integer(None)),
 ];
 
 // Whether there is a literal, and it is this one.

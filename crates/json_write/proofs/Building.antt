@@ -3,12 +3,12 @@ use Rattle.std.proofs.Common.{◌≡◌, ◌⊎◌, inl, inr, ℕ, ℤ, List, []
 use Rattle.json_grammar.specs.declared.Kind.TheVariants.{Array as array, Object as object}
 use Rattle.json_grammar.specs.Tree.{Tree, null, boolean, num, text, list, pairs, Trees, no_trees, tree_and, Pairs, no_pairs, pair_and, list_trees, trees_list, pairs_list, Token, null_token, end, tokens, trees_tokens, pairs_tokens}
 use Rattle.json_io.specs.declared.error.Error.{Error}
-use Rattle.json_io.specs.Errors.{no_memory, out_of_range, key_refused}
+use Rattle.json_io.specs.Errors.{no_memory, out_of_range, key_has_no_text}
 use Rattle.json_model.specs.Datum.{Datum}
 use Rattle.json_model.specs.Datum.{tree_of_datum as datum_tree}
 use Rattle.json_model.specs.Merged.{merged, trees_merged, values_merged}
 use Rattle.json_model.proofs.Merging.{once_put}
-use Rattle.json_print.specs.Data.{parts, before_gap, is_whole}
+use Rattle.json_print.specs.Data.{parts, before_gap, keys_have_texts}
 use Rattle.json_print.specs.Given.{TokenOrInteger, given, given_integer, given_tokens}
 use Rattle.json_print.specs.Taking.{after_all, StopsAmong, Takes}
 use Rattle.json_print.proofs.Data.{whole_tree}
@@ -103,17 +103,17 @@ one_refusal : (b : Bool) (o : Option Error) (c : Bool) → (b && c) ≡ true →
 one_refusal true o c h f = f h
 one_refusal false o c h f = absurd (cc)
 
-none_refused : (ps : List (Option TokenOrInteger)) → is_whole ps ≡ true → all_inside (before_gap ps) ≡ true → first_refusal ps ≡ None
+none_refused : (ps : List (Option TokenOrInteger)) → keys_have_texts ps ≡ true → all_inside (before_gap ps) ≡ true → first_refusal ps ≡ None
 none_refused [] w h = refl
 none_refused (None ∷ ps) w h = absurd (cc)
 none_refused (Some (given t) ∷ ps) w h = none_refused ps w h
 none_refused (Some (given_integer n) ∷ ps) w h = one_refusal (is_inside n) (first_refusal ps) (all_inside (before_gap ps)) h (none_refused ps w)
 
-key_first : (b : Bool) (o : Option Error) (c : Bool) → (b && c) ≡ true → (c ≡ true → o ≡ Some key_refused) → cond b o (Some out_of_range) ≡ Some key_refused
+key_first : (b : Bool) (o : Option Error) (c : Bool) → (b && c) ≡ true → (c ≡ true → o ≡ Some key_has_no_text) → cond b o (Some out_of_range) ≡ Some key_has_no_text
 key_first true o c h f = f h
 key_first false o c h f = absurd (cc)
 
-key_is_first : (ps : List (Option TokenOrInteger)) → is_whole ps ≡ false → all_inside (before_gap ps) ≡ true → first_refusal ps ≡ Some key_refused
+key_is_first : (ps : List (Option TokenOrInteger)) → keys_have_texts ps ≡ false → all_inside (before_gap ps) ≡ true → first_refusal ps ≡ Some key_has_no_text
 key_is_first [] w h = absurd (cc)
 key_is_first (None ∷ ps) w h = refl
 key_is_first (Some (given t) ∷ ps) w h = key_is_first ps w h

@@ -1,8 +1,8 @@
 -- The parts of data, given in turn.
 use Rattle.std.proofs.Common.{◌≡◌, List, [], ◌∷◌, ◌++◌, Bool, true, false, Option, Some, None, Ok, Err, Result, IfSome, refl, sym, ap, subst, ◌∙◌, append_assoc, cond}
 use Rattle.json_io.specs.declared.error.Error.{Error}
-use Rattle.json_io.specs.Errors.{key_refused}
-use Rattle.json_print.specs.Data.{before_gap, is_whole}
+use Rattle.json_io.specs.Errors.{key_has_no_text}
+use Rattle.json_print.specs.Data.{before_gap, keys_have_texts}
 use Rattle.json_print.specs.Given.{TokenOrInteger, token_of}
 use Rattle.json_print.specs.Taking.{after_all, Takes}
 use Rattle.json_print.proofs.Data.{before_append, whole_append, gap_append}
@@ -11,17 +11,17 @@ use Rattle.json_buffer.proofs.TextLaws.{after_append}
 
 -- ---- where the gaps are
 
-pub whole_front : (ps qs : List (Option TokenOrInteger)) → is_whole (ps ++ qs) ≡ true → is_whole ps ≡ true
+pub whole_front : (ps qs : List (Option TokenOrInteger)) → keys_have_texts (ps ++ qs) ≡ true → keys_have_texts ps ≡ true
 whole_front [] qs w = refl
 whole_front (None ∷ ps) qs w = absurd (cc)
 whole_front (Some t ∷ ps) qs w = whole_front ps qs w
 
-pub whole_back : (ps qs : List (Option TokenOrInteger)) → is_whole (ps ++ qs) ≡ true → is_whole qs ≡ true
+pub whole_back : (ps qs : List (Option TokenOrInteger)) → keys_have_texts (ps ++ qs) ≡ true → keys_have_texts qs ≡ true
 whole_back [] qs w = w
 whole_back (None ∷ ps) qs w = absurd (cc)
 whole_back (Some t ∷ ps) qs w = whole_back ps qs w
 
-before_gap_append : (ps qs : List (Option TokenOrInteger)) → is_whole ps ≡ false → before_gap (ps ++ qs) ≡ before_gap ps
+before_gap_append : (ps qs : List (Option TokenOrInteger)) → keys_have_texts ps ≡ false → before_gap (ps ++ qs) ≡ before_gap ps
 before_gap_append [] qs w = absurd (cc)
 before_gap_append (None ∷ ps) qs w = refl
 before_gap_append (Some t ∷ ps) qs w = ap (λ ts. t ∷ ts) (before_gap_append ps qs w)
@@ -32,11 +32,11 @@ before_more [] qs = (before_gap qs, refl)
 before_more (None ∷ ps) qs = ([], refl)
 before_more (Some t ∷ ps) qs = let r = before_more ps qs in (r.0, ap (λ ts. t ∷ ts) r.1)
 
-answer_whole : (b : Bool) (u : Unit {0}) → ◌≡◌ {A = Result (Unit {0}) Error} (Ok u) (cond b (Ok tt) (Err key_refused)) → b ≡ true
+answer_whole : (b : Bool) (u : Unit {0}) → ◌≡◌ {A = Result (Unit {0}) Error} (Ok u) (cond b (Ok tt) (Err key_has_no_text)) → b ≡ true
 answer_whole true u e = refl
 answer_whole false u e = absurd (cc)
 
-pub answer_gap : (b : Bool) (x : Error) → ◌≡◌ {A = Result (Unit {0}) Error} (Err x) (cond b (Ok tt) (Err key_refused)) → b ≡ false
+pub answer_gap : (b : Bool) (x : Error) → ◌≡◌ {A = Result (Unit {0}) Error} (Err x) (cond b (Ok tt) (Err key_has_no_text)) → b ≡ false
 answer_gap true x e = absurd (cc)
 answer_gap false x e = refl
 
@@ -54,11 +54,11 @@ pub record Wrote {S : Type 0} (after : S → TokenOrInteger → S) (old new : S)
   pub begun : err ≡ None
   pub fresh : err' ≡ None
   pub state : new ≡ after_all after old (before_gap ps)
-  pub whole : is_whole ps ≡ true
+  pub whole : keys_have_texts ps ≡ true
   pub proper : AreTokensProper (before_gap ps)
 
 pub wrote : {S : Type 0} {after : S → TokenOrInteger → S} {stopped : S → TokenOrInteger → S → Error → Type 0} {old new : S} {err err' : Option Error} {ps : List (Option TokenOrInteger)} {u : Unit {0}} → WritesDatumTokens after stopped old new err err' ps (Ok u) → Wrote after old new err err' ps
-wrote {err = None} {err' = None} {ps = ps} {u = u} h = record { begun = refl; fresh = refl; state = h.given refl; whole = answer_whole (is_whole ps) u (h.answer refl); proper = h.proper refl }
+wrote {err = None} {err' = None} {ps = ps} {u = u} h = record { begun = refl; fresh = refl; state = h.given refl; whole = answer_whole (keys_have_texts ps) u (h.answer refl); proper = h.proper refl }
 wrote {err = Some x} {err' = None} h = let r = h.kept.0 in absurd (cc)
 wrote {err' = Some e} h = let r = h.again in absurd (cc)
 
@@ -72,7 +72,7 @@ writes_token {old = old} {t = t} {r = Err e} p h =
 
 -- a key that has no text
 pub writes_gap : {S : Type 0} {after : S → TokenOrInteger → S} {stopped : S → TokenOrInteger → S → Error → Type 0} {old : S} {err : Option Error} {ps : List (Option TokenOrInteger)}
-    → err ≡ None → WritesDatumTokens after stopped old old err err (None ∷ ps) (Err key_refused)
+    → err ≡ None → WritesDatumTokens after stopped old old err err (None ∷ ps) (Err key_has_no_text)
 writes_gap n = rw n (record { given = λ _. refl; answer = λ _. refl; proper = λ _. tt; again = tt; stops = λ _. tt; kept = tt })
 
 -- ---- one after another
@@ -82,7 +82,7 @@ pub writes_then : {S : Type 0} {after : S → TokenOrInteger → S} {stopped : S
 writes_then {after = after} {old = old} {mid = mid} {err = err} {err'' = None} {ps = ps} {qs = qs} w h =
     record {
       given = λ n. h.given n ∙ ap (λ s. after_all after s (before_gap qs)) w.state ∙ sym (after_append after old (before_gap ps) (before_gap qs)) ∙ ap (after_all after old) (sym (before_append ps qs w.whole));
-      answer = λ n. h.answer n ∙ ap (λ b. cond b (Ok tt) (Err key_refused)) (sym (whole_append ps qs w.whole));
+      answer = λ n. h.answer n ∙ ap (λ b. cond b (Ok tt) (Err key_has_no_text)) (sym (whole_append ps qs w.whole));
       proper = λ n. subst AreTokensProper (sym (before_append ps qs w.whole)) (proper_append (before_gap ps) (before_gap qs) w.proper (h.proper n));
       again = tt;
       stops = λ n. tt;
@@ -109,10 +109,10 @@ writes_then {after = after} {stopped = stopped} {old = old} {new = new} {err = e
 pub writes_stop : {S : Type 0} {after : S → TokenOrInteger → S} {stopped : S → TokenOrInteger → S → Error → Type 0} {old new : S} {err err' : Option Error} {ps : List (Option TokenOrInteger)} {e : Error}
     → WritesDatumTokens after stopped old new err err' ps (Err e) → (qs : List (Option TokenOrInteger)) → WritesDatumTokens after stopped old new err err' (ps ++ qs) (Err e)
 writes_stop {after = after} {old = old} {err' = None} {ps = ps} {e = e} h qs =
-    let gap = answer_gap (is_whole ps) e (h.answer refl) in
+    let gap = answer_gap (keys_have_texts ps) e (h.answer refl) in
     record {
       given = λ n. h.given n ∙ ap (after_all after old) (sym (before_gap_append ps qs gap));
-      answer = λ n. h.answer n ∙ ap (λ b. cond b (Ok tt) (Err key_refused)) (gap ∙ sym (gap_append ps qs gap));
+      answer = λ n. h.answer n ∙ ap (λ b. cond b (Ok tt) (Err key_has_no_text)) (gap ∙ sym (gap_append ps qs gap));
       proper = λ n. subst AreTokensProper (sym (before_gap_append ps qs gap)) (h.proper n);
       again = tt;
       stops = λ n. tt;

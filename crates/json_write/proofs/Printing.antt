@@ -8,13 +8,13 @@ use Rattle.json_io.specs.declared.error.ErrorCode.{ErrorCode}
 use Rattle.json_io.specs.declared.error.ErrorCode.TheVariants.{NoMemory, Io}
 use Rattle.json_io.specs.declared.error.Place.{Place}
 use Rattle.json_io.specs.declared.error.Place.TheVariants.{None as nowhere, Writing}
-use Rattle.json_io.specs.Errors.{no_memory, key_refused}
+use Rattle.json_io.specs.Errors.{no_memory, key_has_no_text}
 use Rattle.json_io.specs.Known.{append_known}
 use Rattle.json_io.specs.Outside.{SinkState}
 use Rattle.json_print.specs.Data.{parts, before_gap}
-use Rattle.json_print.specs.Layouts.{Form, LaidOut}
+use Rattle.json_print.specs.Layouts.{FormatterModel, LaidOut}
 use Rattle.json_layout.specs.TextWriting.{StopCause}
-use Rattle.json_print.specs.Printer.{Out, StopsTaking, took, start}
+use Rattle.json_print.specs.Printer.{SerializerState, StopsTaking, took, start}
 use Rattle.json_print.specs.Taking.{after_all}
 use Rattle.json_print.specs.Written.{Written}
 use Rattle.json_print.proofs.Data.{whole_tree, gap_tree, tree_spelled}
@@ -30,8 +30,8 @@ no_fault n NoMemory nowhere h = refl
 no_fault n Io Writing h = absurd (omega (arith, h))
 no_fault n code place h = absurd h
 
-pub memory_or_refused : {F : Type 0} (m : Form F) (old new : Out F) (err failed : Option Error) (d : Datum) (e : Error)
-    → err ≡ None → WritesDatumTokens (took m) (StopsTaking m) old new err failed (parts d) (Err e) → new.faults ≡ 0 → (e ≡ no_memory) ⊎ ((e ≡ key_refused) × (tree_of_datum d ≡ None))
+pub memory_or_refused : {F : Type 0} (m : FormatterModel F) (old new : SerializerState F) (err failed : Option Error) (d : Datum) (e : Error)
+    → err ≡ None → WritesDatumTokens (took m) (StopsTaking m) old new err failed (parts d) (Err e) → new.faults ≡ 0 → (e ≡ no_memory) ⊎ ((e ≡ key_has_no_text) × (tree_of_datum d ≡ None))
 memory_or_refused m old new err failed d e n h z =
     elim (refused_or n h) [
       | inl q ↦ inr (q.is, gap_tree d q.gap)
@@ -39,7 +39,7 @@ memory_or_refused m old new err failed d e n h z =
     ]
 
 -- the text was gained
-pub text_gained : {F : Type 0} (m : Form F) (old new : Out F) (err failed : Option Error) (d : Datum) (u : Unit {0}) (w w' : SinkState) (i : Option (List ℕ)) → old ≡ start old.formatter false w → LaidOut m old.formatter i 0 false
+pub text_gained : {F : Type 0} (m : FormatterModel F) (old new : SerializerState F) (err failed : Option Error) (d : Datum) (u : Unit {0}) (w w' : SinkState) (i : Option (List ℕ)) → old ≡ start old.formatter false w → LaidOut m old.formatter i 0 false
     → WritesDatumTokens (took m) (StopsTaking m) old new err failed (parts d) (Ok u) → Written m new w' → (t : Tree) × (tree_of_datum d ≡ Some t) × (w'.gained ≡ append_known w.gained (shown i 0 t))
 text_gained m old new err failed d u w w' i starts laid h written =
     let v = wrote h in let t = whole_tree d v.whole in

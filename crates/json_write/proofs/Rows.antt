@@ -7,7 +7,7 @@ use Rattle.json_print.specs.Given.{TokenOrInteger, given}
 use Rattle.json_model.specs.Datum.{Datum, rows_datum, row_of, list_rows, key_of}
 use Rattle.json_print.specs.Data.{parts}
 use Rattle.json_write.specs.Writing.{WritesDatumTokens}
-use Rattle.json_io.specs.Errors.{key_refused}
+use Rattle.json_io.specs.Errors.{key_has_no_text}
 use Rattle.json_write.proofs.Parts.{Wrote, wrote_then, wrote_same, writes_then, writes_stop, writes_same, writes_gap}
 use Rattle.json_write.proofs.Members.{rows_front, rows_front_more, rows_around}
 
@@ -25,7 +25,7 @@ left_of all done rest left x e s = e ∙ ap (λ ys. done ++ ys) s
 
 -- a key with no text
 pub rows_gap : {K V S : Type 0} {f : K → Datum} {g : V → Datum} {after : S → TokenOrInteger → S} {stopped : S → TokenOrInteger → S → Error → Type 0} {old new : S} {err failed : Option Error} {all rest left : List (K × V)} (x : K × V) {e : Error}
-    → RowsUpTo f g after old new err failed all rest → rest ≡ x ∷ left → None ≡ key_of (f x.0) → e ≡ key_refused → WritesDatumTokens after stopped old new err failed (parts (rows_datum (list_rows (map (row_of f g) all)))) (Err e)
+    → RowsUpTo f g after old new err failed all rest → rest ≡ x ∷ left → None ≡ key_of (f x.0) → e ≡ key_has_no_text → WritesDatumTokens after stopped old new err failed (parts (rows_datum (list_rows (map (row_of f g) all)))) (Err e)
 rows_gap {f = f} {g = g} {all = all} {rest = rest} {left = left} x h s n is =
     let r = rows_around f g all h.done left x (left_of all h.done rest left x h.whole s) in
     rw is (writes_same (writes_then h.wrote (writes_gap {ps = parts (g x.1) ++ r.0} h.wrote.fresh)) (ap (λ k. rows_front f g h.done ++ (option_map (λ s. given (key_token s)) k ∷ (parts (g x.1) ++ r.0))) n ∙ r.1))

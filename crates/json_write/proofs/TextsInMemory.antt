@@ -4,7 +4,7 @@ use Rattle.json_grammar.specs.Tree.{Tree}
 use Rattle.json_model.specs.Datum.{Datum, tree_of_datum}
 use Rattle.json_model.specs.Print.{shown}
 use Rattle.json_io.specs.declared.error.Error.{Error}
-use Rattle.json_io.specs.Errors.{no_memory, key_refused}
+use Rattle.json_io.specs.Errors.{no_memory, key_has_no_text}
 use Rattle.json_print.specs.Data.{parts, before_gap}
 use Rattle.json_print.specs.Taking.{after_all}
 use Rattle.json_print.proofs.Data.{whole_tree, gap_tree}
@@ -32,5 +32,5 @@ text_put {old = old} {new = new} d starts h =
 pub text_is : (d : Datum) (bytes : List ℕ) → TextOf d bytes → option_map (shown None 0) (tree_of_datum d) ≡ Some bytes
 text_is d bytes t = ap (option_map (shown None 0)) t.is ∙ ap Some (sym t.text)
 
-pub text_refused : {old new : TextState} {err failed : Option Error} {e : Error} (d : Datum) → err ≡ None → WritesDatumTokens given_put StopsAtMemory old new err failed (parts d) (Err e) → (e ≡ no_memory) ⊎ ((e ≡ key_refused) × (tree_of_datum d ≡ None))
+pub text_refused : {old new : TextState} {err failed : Option Error} {e : Error} (d : Datum) → err ≡ None → WritesDatumTokens given_put StopsAtMemory old new err failed (parts d) (Err e) → (e ≡ no_memory) ⊎ ((e ≡ key_has_no_text) × (tree_of_datum d ≡ None))
 text_refused d n h = elim (refused_or n h) [ inl q ↦ inr (q.is, gap_tree d q.gap) | inr s ↦ inl s.left ]

@@ -7,7 +7,7 @@ use Rattle.json_grammar.specs.Tree.{Tree, null, boolean, num, text, list, pairs,
 use Rattle.json_io.specs.declared.error.Error.{Error}
 use Rattle.json_number.specs.Integers.{integer_in}
 use Rattle.json_number.proofs.Integers.{prints_its_literal}
-use Rattle.json_print.specs.Data.{parts, data_parts, rows_parts, before_gap, is_whole}
+use Rattle.json_print.specs.Data.{parts, data_parts, rows_parts, before_gap, keys_have_texts}
 use Rattle.json_print.specs.Given.{TokenOrInteger, given}
 use Rattle.json_print.specs.Taking.{after_all}
 use Rattle.json_doc_print.specs.Emitting.{Emits, number_given, tree_given, trees_given, pairs_given}
@@ -29,7 +29,7 @@ unfolding somes
 before_somes [] = refl
 before_somes (g ∷ gs) = ap (λ z. g ∷ z) (before_somes gs)
 
-whole_somes : (gs : List TokenOrInteger) → is_whole (somes gs) ≡ true
+whole_somes : (gs : List TokenOrInteger) → keys_have_texts (somes gs) ≡ true
 unfolding somes
 whole_somes [] = refl
 whole_somes (g ∷ gs) = whole_somes gs

@@ -4,15 +4,15 @@ use Rattle.json_grammar.specs.declared.Kind.{Kind}
 use Rattle.json_grammar.specs.declared.Kind.TheVariants.{Array as array, Object as object}
 use Rattle.json_grammar.specs.Tree.{Tree, null, boolean, num, text, list, pairs, no_pairs, list_trees, Token, null_token, boolean_token, num_token, text_token, begin, end, key_token}
 use Rattle.json_io.specs.declared.error.Error.{Error}
-use Rattle.json_io.specs.Errors.{no_memory, out_of_range, key_refused}
+use Rattle.json_io.specs.Errors.{no_memory, out_of_range, key_has_no_text}
 use Rattle.json_grammar.specs.TokenStates.{TokenState, after_token, initial_state as no_token}
 use Rattle.json_value.specs.Denotes.{tree_of, pair_of, text_bytes}
 use Rattle.json_model.specs.Merged.{inserted_all}
-use Rattle.json_write.specs.declared.builder.Builder.{Builder}
-use Rattle.json_write.specs.declared.level.Level.{Level}
+use Rattle.json_write.specs.declared.builder.ValueBuilder.{ValueBuilder}
+use Rattle.json_write.specs.declared.level.OpenContainer.{OpenContainer}
 use Rattle.json_print.specs.Given.{TokenOrInteger, given, given_integer, token_of}
 use Rattle.json_print.specs.Taking.{Takes}
-use Rattle.json_write.specs.Nesting.{nesting_stand}
+use Rattle.json_write.specs.Nesting.{nesting_state}
 use Rattle.json_model.specs.Datum.{Datum, tree_of_datum}
 
 -- it lies in i64 or in u64
@@ -27,7 +27,7 @@ pub record Frame : Type 0 where
   pub members : List (List ℕ × Tree)
   pub key : List ℕ
 
-abbrev pub frame_of : Level → Frame
+abbrev pub frame_of : OpenContainer → Frame
 frame_of l = record { kind = l.kind; values = map tree_of l.values.items; members = map pair_of l.members.items; key = text_bytes l.key }
 
 abbrev pub new_frame : Kind → Frame
@@ -59,13 +59,13 @@ pub record Work : Type 0 where
   pub outer : List Frame
 
 pub record Build : Type 0 where
-  pub stand : TokenState
+  pub token_state : TokenState
   pub work : Work
   -- each integer by value so far lies in i64 or u64
   pub fits : Bool
 
-abbrev pub build_of : Builder → Build
-build_of b = record { stand = nesting_stand b.nesting; work = record { top = frame_of b.top; outer = reverse (map frame_of b.outer.items) }; fits = true }
+abbrev pub build_of : ValueBuilder → Build
+build_of b = record { token_state = nesting_state b.nesting; work = record { top = frame_of b.top; outer = reverse (map frame_of b.outer.items) }; fits = true }
 
 abbrev pub ended : Tree → List Frame → Work
 ended t [] = record { top = frame_take (new_frame array) t; outer = [] }
@@ -85,15 +85,15 @@ fits_after b (given t) = b
 fits_after b (given_integer n) = b && is_inside n
 
 abbrev pub build_after : Build → TokenOrInteger → Build
-build_after b t = record { stand = after_token b.stand (token_of t); work = work_after b.work (token_of t); fits = fits_after b.fits t }
+build_after b t = record { token_state = after_token b.token_state (token_of t); work = work_after b.work (token_of t); fits = fits_after b.fits t }
 
 -- a value was passed
-abbrev pub placed : Tree → Build → TokenOrInteger → Build
-placed u b t = record { stand = after_token b.stand null_token; work = record (b.work) { top = frame_take b.work.top u }; fits = b.fits }
+abbrev pub value_added : Tree → Build → TokenOrInteger → Build
+value_added u b t = record { token_state = after_token b.token_state null_token; work = record (b.work) { top = frame_take b.work.top u }; fits = b.fits }
 
 -- no token was taken yet
 abbrev pub at_start : Build
-at_start = record { stand = no_token; work = record { top = new_frame array; outer = [] }; fits = true }
+at_start = record { token_state = no_token; work = record { top = new_frame array; outer = [] }; fits = true }
 
 abbrev pub StopsAs : Error → Build → TokenOrInteger → Build → Error → Type 0
 StopsAs x b t b' e = e ≡ x
@@ -106,16 +106,16 @@ abbrev pub StopsBuild : Build → TokenOrInteger → Build → Error → Type 0
 StopsBuild b t b' e = (e ≡ no_memory) ⊎ ((e ≡ out_of_range) × ((z : ℤ) × (t ≡ given_integer z) × (is_inside z ≡ false)))
 
 -- a call of a builder: what it builds goes on so, or it stops so
-abbrev pub Builds : (Build → TokenOrInteger → Build) → (Build → TokenOrInteger → Build → Error → Type 0) → Builder → Builder → TokenOrInteger → Result (Unit {0}) Error → Type 0
+abbrev pub Builds : (Build → TokenOrInteger → Build) → (Build → TokenOrInteger → Build → Error → Type 0) → ValueBuilder → ValueBuilder → TokenOrInteger → Result (Unit {0}) Error → Type 0
 Builds next stops old new g result = Takes next stops (build_of old) (build_of new) old.failed new.failed g result
 
 -- the first from the left of a key that has no text and an integer, which is no key, that lies outside
 abbrev pub first_refusal : List (Option TokenOrInteger) → Option Error
 first_refusal [] = None
-first_refusal (None ∷ ps) = Some key_refused
+first_refusal (None ∷ ps) = Some key_has_no_text
 first_refusal (Some (given t) ∷ ps) = first_refusal ps
 first_refusal (Some (given_integer n) ∷ ps) = cond (is_inside n) (first_refusal ps) (Some out_of_range)
 
 -- an error is want of memory, or that a key has no text
 abbrev pub FailsOnKeyText : {A : Type 0} → Datum → Result A Error → Type 0
-FailsOnKeyText d result = IfErr result (λ e. (e ≡ no_memory) ⊎ ((e ≡ key_refused) × (tree_of_datum d ≡ None)))
+FailsOnKeyText d result = IfErr result (λ e. (e ≡ no_memory) ⊎ ((e ≡ key_has_no_text) × (tree_of_datum d ≡ None)))

@@ -2,7 +2,7 @@
 use Rattle.std.specs.Prelude.{◌≡◌, ◌⊎◌, ℕ, ◌<◌, List, Option, Some, None, Result, OnOk, IfErr, IsErrOf, option_map, codes}
 use Rattle.json_grammar.specs.Tree.{Tree}
 use Rattle.json_io.specs.declared.error.Error.{Error}
-use Rattle.json_io.specs.Errors.{no_memory, writing_failed, key_refused}
+use Rattle.json_io.specs.Errors.{no_memory, writing_failed, key_has_no_text}
 use Rattle.json_io.specs.Known.{Appends}
 use Rattle.json_io.specs.Outside.{SinkState}
 use Rattle.json_io.specs.Transfer.{AppendsFront}
@@ -26,10 +26,10 @@ pub record StopsText (old new : SinkState) (text : List ℕ) (e : Error) : Type 
 -- why no text was written: a key has none, memory ran out before the first byte, or the text stopped
 abbrev pub SendingFails : SinkState → SinkState → Option (List ℕ) → Datum → Error → Type 0
 SendingFails old new i d e =
-    ((e ≡ key_refused) × (tree_of_datum d ≡ None) × (new ≡ old)) ⊎ (((e ≡ no_memory) × (new ≡ old)) ⊎ ((t : Tree) × (tree_of_datum d ≡ Some t) × StopsText old new (shown i 0 t) e))
+    ((e ≡ key_has_no_text) × (tree_of_datum d ≡ None) × (new ≡ old)) ⊎ (((e ≡ no_memory) × (new ≡ old)) ⊎ ((t : Tree) × (tree_of_datum d ≡ Some t) × StopsText old new (shown i 0 t) e))
 
 -- the sink gained the text of the datum's tree, with an indent or none
 pub record WritesDatum (old new : SinkState) (i : Option (List ℕ)) (d : Datum) (result : Result (Unit {0}) Error) : Type 0 where
   pub ok : OnOk result ((t : Tree) × (tree_of_datum d ≡ Some t) × Appends old.gained new.gained (shown i 0 t))
   pub err : IfErr result (SendingFails old new i d)
-  pub told : old.faults < new.faults → IsErrOf result writing_failed
+  pub reported : old.faults < new.faults → IsErrOf result writing_failed

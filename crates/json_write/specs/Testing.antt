@@ -5,14 +5,14 @@ use Rattle.json_io.specs.declared.error.Error.{Error}
 use Rattle.json_io.specs.Errors.{no_memory}
 use Rattle.json_print.specs.Given.{TokenOrInteger, token_of}
 use Rattle.json_print.specs.Taking.{Takes}
-use Rattle.json_write.specs.Nesting.{nesting_stand}
+use Rattle.json_write.specs.Nesting.{nesting_state}
 use Rattle.json_write.specs.declared.key_test.KeyTest.{KeyTest}
 
 abbrev pub expected_in_test : KeyTest → TokenState
-expected_in_test s = nesting_stand s.nesting
+expected_in_test s = nesting_state s.nesting
 
-abbrev pub stand_given : TokenState → TokenOrInteger → TokenState
-stand_given s g = after_token s (token_of g)
+abbrev pub state_given : TokenState → TokenOrInteger → TokenState
+state_given s g = after_token s (token_of g)
 
 -- after a value
 abbrev pub passed : TokenState → TokenOrInteger → TokenState

@@ -3,14 +3,14 @@ use Rattle.std.specs.Prelude.{◌≡◌, List, [], ◌∷◌, IsUtf8, Option, No
 use Rattle.json_grammar.specs.Grammar.{number}
 use Rattle.json_grammar.specs.Tree.{Token, num_token, text_token, key_token}
 use Rattle.json_io.specs.declared.error.Error.{Error}
-use Rattle.json_io.specs.Errors.{key_refused}
-use Rattle.json_print.specs.Data.{before_gap, is_whole}
+use Rattle.json_io.specs.Errors.{key_has_no_text}
+use Rattle.json_print.specs.Data.{before_gap, keys_have_texts}
 use Rattle.json_print.specs.Given.{TokenOrInteger, token_of}
 use Rattle.json_print.specs.Taking.{after_all, StopsAmong}
 
 -- what is answered where the events met no error
 abbrev pub answer_of : List (Option TokenOrInteger) → Result (Unit {0}) Error
-answer_of ps = cond (is_whole ps) (Ok tt) (Err key_refused)
+answer_of ps = cond (keys_have_texts ps) (Ok tt) (Err key_has_no_text)
 
 -- a literal that is a number (RFC 8259, section 6), and a string or a name that is UTF-8 (section 8.1)
 abbrev pub IsTokenProper : Token → Type 0

@@ -9,31 +9,31 @@ ghost use Rattle.json_model.specs.Merged.{merged};
 ghost use Rattle.json_print.specs.Data.{parts};
 ghost use Rattle.json_print.specs.Given.{given, given_integer};
 ghost use Rattle.json_value.specs.Denotes.{tree_of};
-ghost use Rattle.json_write.specs.Building.{Build, Builds, StopsAs, StopsBuild, StopsMemory, at_start, build_after, build_of, first_refusal, frame_take, is_inside, new_frame, placed};
+ghost use Rattle.json_write.specs.Building.{Build, Builds, StopsAs, StopsBuild, StopsMemory, at_start, build_after, build_of, first_refusal, frame_take, is_inside, new_frame, value_added};
 
 use crate::Serialize;
-use crate::level::Level;
+use crate::level::OpenContainer;
 use crate::nesting::Nesting;
 use json_grammar::Kind;
+use json_io::{Error, ErrorCode, Place, Result};
 use json_number::RawNumber;
 use json_print::Events;
-use json_text::{Error, ErrorCode, Place, Result};
 use json_value::{Text, Value};
 use std::alloc::Global;
 use std::mem;
 
 #[derive(Drop)]
-pub(crate) struct Builder {
+pub(crate) struct ValueBuilder {
     alloc: Global,
     nesting: Nesting,
     // The innermost open container, or what takes the root.
-    top: Level,
-    outer: Vec<Level>,
+    top: OpenContainer,
+    outer: Vec<OpenContainer>,
     failed: Option<Error>,
 }
 
 // An integer lies outside `i64` and `u64`.
-fn out_of_range() -> Error
+fn out_of_range_error() -> Error
     ensures { result ≡ out_of_range }
 {
     Error {
@@ -52,7 +52,7 @@ fn signed_value(n: i128) -> Result<Value>
     }
     match i64::try_from(n) {
         Ok(signed) => Ok(Value::new_i64(signed)),
-        Err(_) => Err(out_of_range()),
+        Err(_) => Err(out_of_range_error()),
     }
 }
 
@@ -63,19 +63,19 @@ fn unsigned_value(n: u128) -> Result<Value>
 {
     match u64::try_from(n) {
         Ok(unsigned) => Ok(Value::new_u64(unsigned)),
-        Err(_) => Err(out_of_range()),
+        Err(_) => Err(out_of_range_error()),
     }
 }
 
-impl Builder {
-    fn new(alloc: Global) -> Builder
+impl ValueBuilder {
+    fn new(alloc: Global) -> ValueBuilder
         ensures start { build_of result ≡ at_start }
         ensures fresh { result.failed ≡ None }
     {
-        Builder {
+        ValueBuilder {
             alloc,
             nesting: Nesting::new(alloc),
-            top: Level::new(alloc, Kind::Array),
+            top: OpenContainer::new(alloc, Kind::Array),
             outer: Vec::new(alloc),
             failed: None,
         }
@@ -83,13 +83,13 @@ impl Builder {
 
     // A value more.
     fn place(&mut self, value: Value) -> Result<()>
-        ensures { Builds (placed (tree_of value)) StopsMemory self.old self.new
+        ensures { Builds (value_added (tree_of value)) StopsMemory self.old self.new
             (given null_token) result }
     {
         if let Some(error) = self.failed {
             return Err(error);
         }
-        self.nesting.pass();
+        self.nesting.finish_value();
         match self.top.take(value) {
             Ok(()) => Ok(()),
             Err(error) => {
@@ -119,7 +119,7 @@ impl Builder {
         ensures failed { self.new.failed ≡ self.old.failed }
     {
         self.nesting.begin(kind)?;
-        let outer = mem::replace(&mut self.top, Level::new(self.alloc, kind));
+        let outer = mem::replace(&mut self.top, OpenContainer::new(self.alloc, kind));
         self.outer.push(outer)?;
         Ok(())
     }
@@ -133,7 +133,7 @@ impl Builder {
         self.nesting.end(kind);
         let outer = match self.outer.pop() {
             Some(level) => level,
-            None => Level::new(self.alloc, Kind::Array),
+            None => OpenContainer::new(self.alloc, Kind::Array),
         };
         let level = mem::replace(&mut self.top, outer);
         let value = level.into_value(self.alloc)?;
@@ -179,14 +179,14 @@ impl Builder {
     }
 }
 
-impl Events for Builder {
+impl Events for ValueBuilder {
     ghost State = { Build };
 
     ghost state = { build_of };
 
     ghost after = { build_after };
 
-    ghost stand = { λ b. b.stand };
+    ghost token_state = { λ b. b.token_state };
 
     ghost stopped = { StopsBuild };
 
@@ -276,7 +276,7 @@ pub fn to_value<T: Serialize>(alloc: Global, value: &T) -> Result<Value>
     ensures err { IfErr result (λ e. (e ≡ no_memory)
         ⊎ (first_refusal (parts (T.datum value.now)) ≡ Some e)) }
 {
-    let mut builder = Builder::new(alloc);
+    let mut builder = ValueBuilder::new(alloc);
     value.serialize(&mut builder)?;
     Ok(builder.into_value())
 }

@@ -2,25 +2,25 @@
 ghost use Rattle.std.specs.Prelude.{◌≡◌, None};
 ghost use Rattle.json_model.specs.Datum.{Rows, no_rows, row_and, rows_datum, text_datum};
 ghost use Rattle.json_print.specs.Data.{parts, rows_parts};
-ghost use Rattle.json_print.specs.Standing.{AcceptsValue};
+ghost use Rattle.json_print.specs.ExpectedEvents.{AcceptsValue};
 ghost use Rattle.json_write.specs.FieldRows.{rows_append, AtKey};
 ghost use Rattle.json_write.specs.Writing.{WritesDatumTokens};
 
 use crate::Serialize;
-use crate::giving::{begin_rows, end_rows, give_key};
+use crate::event_calls::{begin_object, end_rows, give_key};
+use json_io::Result;
 use json_print::Events;
-use json_text::Result;
 
 /// Members of an object in their order: a [`Field`], or a pair of members and those after them.
 ///
 /// ```
 /// use json_print::Serializer;
 /// use json_text::VecSink;
-/// use json_write::{Field, Fields, give_fields};
+/// use json_write::{Field, Fields, serialize_fields};
 /// let mut out = Serializer::new(alloc, VecSink::new(alloc));
 /// let (born, died) = (1815u16, 1852u16);
 /// let fields = (Field { name: "born", value: &born }, Field { name: "died", value: &died });
-/// give_fields(&fields, &mut out)?;
+/// serialize_fields(&fields, &mut out)?;
 /// assert_eq!(rt; out.into_inner().as_slice(), b"{\"born\":1815,\"died\":1852}".as_slice());
 /// ```
 pub trait Fields {
@@ -30,7 +30,7 @@ pub trait Fields {
     /// Gives the members to `out`, up to the first that is refused or meets an error, which is
     /// returned. A key has to be allowed there.
     fn give<E: Events>(&self, out: &mut E) -> Result<()>
-        requires { E.failed out.old ≡ None → AtKey (E.stand (E.state out.old)) }
+        requires { E.failed out.old ≡ None → AtKey (E.token_state (E.state out.old)) }
         ensures { WritesDatumTokens E.after E.stopped (E.state out.old) (E.state out.new)
             (E.failed out.old) (E.failed out.new) (rows_parts (rows self.now)) result };
 }
@@ -40,9 +40,9 @@ pub trait Fields {
 /// ```
 /// use json_print::Serializer;
 /// use json_text::VecSink;
-/// use json_write::{Field, give_fields};
+/// use json_write::{Field, serialize_fields};
 /// let mut out = Serializer::new(alloc, VecSink::new(alloc));
-/// give_fields(&Field { name: "ready", value: &true }, &mut out)?;
+/// serialize_fields(&Field { name: "ready", value: &true }, &mut out)?;
 /// assert_eq!(rt; out.into_inner().as_slice(), b"{\"ready\":true}".as_slice());
 /// ```
 #[derive(Clone, Copy)]
@@ -76,12 +76,12 @@ impl<A: Fields, B: Fields> Fields for (A, B) {
 /// Gives an object of these members: the body of [`Serialize::serialize`] of a type with fields.
 /// Fails if the events do.
 #[inline(always)]
-pub fn give_fields<F: Fields, E: Events>(fields: &F, out: &mut E) -> Result<()>
-    requires { AcceptsValue (E.failed out.old) (E.stand (E.state out.old)) }
+pub fn serialize_fields<F: Fields, E: Events>(fields: &F, out: &mut E) -> Result<()>
+    requires { AcceptsValue (E.failed out.old) (E.token_state (E.state out.old)) }
     ensures { WritesDatumTokens E.after E.stopped (E.state out.old) (E.state out.new)
         (E.failed out.old) (E.failed out.new) (parts (rows_datum (F.rows fields.now))) result }
 {
-    begin_rows(None, out)?;
+    begin_object(None, out)?;
     fields.give(out)?;
     end_rows(out)
 }

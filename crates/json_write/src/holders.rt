@@ -1,10 +1,10 @@
 // What is written as the value that it holds.
 ghost use Rattle.json_model.specs.Datum.{option_datum};
 
-use crate::giving::give_null;
+use crate::event_calls::write_null;
 use crate::{KeyRoom, Serialize};
+use json_io::Result;
 use json_print::Events;
-use json_text::Result;
 
 impl<T: Serialize> Serialize for &T {
     ghost datum = { λ s. T.datum s.now };
@@ -25,7 +25,7 @@ impl<T: Serialize> Serialize for Option<T> {
     #[inline(always)]
     fn serialize<E: Events>(&self, out: &mut E) -> Result<()> {
         match self {
-            None => give_null(out),
+            None => write_null(out),
             Some(x) => x.serialize(out),
         }
     }

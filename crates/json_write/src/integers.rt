@@ -2,10 +2,10 @@
 ghost use Rattle.std.specs.Prelude.{pos};
 ghost use Rattle.json_model.specs.Datum.{integer_datum};
 
-use crate::giving::{give_int, give_uint};
+use crate::event_calls::{give_int, give_uint};
 use crate::{KeyRoom, Serialize};
+use json_io::Result;
 use json_print::Events;
-use json_text::Result;
 
 impl Serialize for u8 {
     ghost datum = { λ n. integer_datum (pos n) };

@@ -11,8 +11,8 @@ ghost use Rattle.json_write.specs.Building.{FailsOnKeyText};
 use crate::Serialize;
 use crate::nesting::Nesting;
 use json_grammar::Kind;
+use json_io::{Error, Result};
 use json_print::Events;
-use json_text::{Error, Result};
 use std::alloc::Global;
 
 #[derive(Drop)]
@@ -24,7 +24,7 @@ pub(crate) struct KeyTest {
 impl KeyTest {
     fn new(alloc: Global) -> KeyTest
         ensures fresh { result.failed ≡ None }
-        ensures stand { expected_in_test result ≡ states.initial_state }
+        ensures token_state { expected_in_test result ≡ states.initial_state }
     {
         KeyTest {
             nesting: Nesting::new(alloc),
@@ -33,13 +33,13 @@ impl KeyTest {
     }
 
     // A value was taken.
-    fn pass(&mut self) -> Result<()>
+    fn finish_value(&mut self) -> Result<()>
         ensures { Tests testing.passed self.old self.new (given null_token) result }
     {
         if let Some(error) = self.failed {
             return Err(error);
         }
-        self.nesting.pass();
+        self.nesting.finish_value();
         Ok(())
     }
 
@@ -76,7 +76,7 @@ impl Events for KeyTest {
 
     ghost after = { testing.stand_given };
 
-    ghost stand = { λ s. s };
+    ghost token_state = { λ s. s };
 
     ghost stopped = { testing.StopsTest };
 
@@ -85,32 +85,32 @@ impl Events for KeyTest {
     ghost moves = { λ s t. refl };
 
     fn null(&mut self) -> Result<()> {
-        self.pass()
+        self.finish_value()
     }
 
     fn boolean(&mut self, b: bool) -> Result<()> {
         let _ = b;
-        self.pass()
+        self.finish_value()
     }
 
     fn int(&mut self, n: i128) -> Result<()> {
         let _ = n;
-        self.pass()
+        self.finish_value()
     }
 
     fn uint(&mut self, n: u128) -> Result<()> {
         let _ = n;
-        self.pass()
+        self.finish_value()
     }
 
     fn raw_number(&mut self, literal: &str) -> Result<()> {
         let _ = literal;
-        self.pass()
+        self.finish_value()
     }
 
     fn text(&mut self, s: &str) -> Result<()> {
         let _ = s;
-        self.pass()
+        self.finish_value()
     }
 
     fn begin_array(&mut self, hint: Option<usize>) -> Result<()> {

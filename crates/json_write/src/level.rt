@@ -6,13 +6,13 @@ ghost use Rattle.json_value.specs.Denotes.{text_bytes, tree_of};
 ghost use Rattle.json_write.specs.Building.{frame_of, new_frame, frame_key, frame_take, frame_tree};
 
 use json_grammar::Kind;
-use json_text::Result;
+use json_io::Result;
 use json_value::{Pair, Text, Value};
 use std::alloc::Global;
 use std::mem;
 
 #[derive(Drop)]
-pub(crate) struct Level {
+pub(crate) struct OpenContainer {
     kind: Kind,
     values: Vec<Value>,
     members: Vec<Pair>,
@@ -20,11 +20,11 @@ pub(crate) struct Level {
     key: Text,
 }
 
-impl Level {
-    pub(crate) fn new(alloc: Global, kind: Kind) -> Level
+impl OpenContainer {
+    pub(crate) fn new(alloc: Global, kind: Kind) -> OpenContainer
         ensures { frame_of result ≡ new_frame kind }
     {
-        Level {
+        OpenContainer {
             kind,
             values: Vec::new(alloc),
             members: Vec::new(alloc),

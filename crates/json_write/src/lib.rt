@@ -16,10 +16,11 @@
 #![tactic(auto)]
 
 mod builder;
+mod event_calls;
 mod fields;
-mod giving;
 mod holders;
 mod integers;
+mod key_errors;
 mod key_room;
 mod key_test;
 mod level;
@@ -27,7 +28,6 @@ mod lists;
 mod maps;
 mod nesting;
 mod numbers;
-mod refusal;
 mod scalars;
 mod serialize;
 mod texts;
@@ -35,13 +35,13 @@ mod values;
 mod writing;
 
 pub use builder::to_value;
-pub use fields::{Field, Fields, give_fields};
-pub use giving::{
-    begin_list, begin_rows, end_list, end_rows, give_boolean, give_int, give_key, give_literal,
-    give_null, give_text, give_uint,
+pub use event_calls::{
+    begin_list, begin_object, end_list, end_rows, give_boolean, give_int, give_key, give_literal,
+    give_text, give_uint, write_null,
 };
+pub use fields::{Field, Fields, serialize_fields};
+pub use key_errors::key_error;
 pub use key_room::KeyRoom;
-pub use refusal::refused_key;
 pub use serialize::Serialize;
 pub use texts::{to_string, to_string_pretty, to_vec, to_vec_pretty};
 pub use writing::{to_writer, to_writer_pretty};

@@ -1,17 +1,17 @@
 // Lists.
 ghost use Rattle.std.specs.Prelude.{[], ◌∷◌, map};
-ghost use Rattle.json_print.specs.Standing.{AcceptsValue};
+ghost use Rattle.json_print.specs.ExpectedEvents.{AcceptsValue};
 ghost use Rattle.json_model.specs.Datum.{list_datum, list_data};
 ghost use Rattle.json_print.specs.Data.{parts};
 ghost use Rattle.json_write.specs.Writing.{WritesDatumTokens};
 
-use crate::giving::{begin_list, end_list};
+use crate::event_calls::{begin_list, end_list};
 use crate::{KeyRoom, Serialize};
+use json_io::Result;
 use json_print::Events;
-use json_text::Result;
 
 fn serialize_list<T: Serialize, E: Events>(items: &[T], out: &mut E) -> Result<()>
-    requires { AcceptsValue (E.failed out.old) (E.stand (E.state out.old)) }
+    requires { AcceptsValue (E.failed out.old) (E.token_state (E.state out.old)) }
     ensures { WritesDatumTokens E.after E.stopped (E.state out.old) (E.state out.new)
         (E.failed out.old) (E.failed out.new)
         (parts (list_datum (list_data (map T.datum items.now)))) result }

@@ -4,11 +4,11 @@ ghost use Rattle.json_model.specs.Datum.{rows_datum, list_rows, row_of};
 ghost use Rattle.json_print.specs.Data.{parts};
 ghost use Rattle.json_write.specs.Writing.{WritesDatumTokens};
 
-use crate::giving::{begin_rows, end_rows, give_key};
-use crate::refusal::refused_key;
+use crate::event_calls::{begin_object, end_rows, give_key};
+use crate::key_errors::key_error;
 use crate::{KeyRoom, Serialize};
+use json_io::Result;
 use json_print::Events;
-use json_text::Result;
 use std::collections::BTreeMap;
 
 impl<K: Serialize + Ord, V: Serialize> Serialize for BTreeMap<K, V> {
@@ -16,10 +16,10 @@ impl<K: Serialize + Ord, V: Serialize> Serialize for BTreeMap<K, V> {
 
     fn serialize<E: Events>(&self, out: &mut E) -> Result<()> {
         let mut room = KeyRoom::new();
-        begin_rows(Some(self.len()), out)?;
+        begin_object(Some(self.len()), out)?;
         for (key, value) in self {
             match key.key(&mut room) {
-                None => return Err(refused_key()),
+                None => return Err(key_error()),
                 Some(text) => give_key(text, out)?,
             }
             value.serialize(out)?;

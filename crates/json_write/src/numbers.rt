@@ -5,11 +5,11 @@ ghost use Rattle.json_number.specs.Literals.{raw_literal};
 ghost use Rattle.json_number.specs.Numbers.{value_of};
 ghost use Rattle.json_model.specs.Datum.{integer_datum, literal_datum};
 
-use crate::giving::{give_int, give_literal, give_uint};
+use crate::event_calls::{give_int, give_literal, give_uint};
 use crate::{KeyRoom, Serialize};
+use json_io::Result;
 use json_number::{Integer, Number, RawNumber};
 use json_print::Events;
-use json_text::Result;
 
 impl Serialize for Number {
     ghost datum = { λ n. integer_datum (value_of n) };

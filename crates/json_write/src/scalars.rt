@@ -3,10 +3,10 @@ ghost use Rattle.std.specs.Prelude.{encode_utf8, string_bytes, pos};
 ghost use Rattle.std.specs.Cow.{cow_str_bytes};
 ghost use Rattle.json_model.specs.Datum.{null_datum, boolean_datum, integer_datum, text_datum};
 
-use crate::giving::{give_boolean, give_int, give_null, give_text, give_uint};
+use crate::event_calls::{give_boolean, give_int, give_text, give_uint, write_null};
 use crate::{KeyRoom, Serialize};
+use json_io::Result;
 use json_print::Events;
-use json_text::Result;
 use std::borrow::CowStr;
 
 impl Serialize for () {
@@ -14,7 +14,7 @@ impl Serialize for () {
 
     #[inline(always)]
     fn serialize<E: Events>(&self, out: &mut E) -> Result<()> {
-        give_null(out)
+        write_null(out)
     }
 
     fn key<'k>(&'k self, room: &'k mut KeyRoom) -> Option<&'k str> {

@@ -1,13 +1,13 @@
 // What can be written.
 ghost use Rattle.std.specs.Prelude.{◌≡◌, option_map};
-ghost use Rattle.json_print.specs.Standing.{AcceptsValue};
+ghost use Rattle.json_print.specs.ExpectedEvents.{AcceptsValue};
 ghost use Rattle.json_model.specs.Datum.{Datum, key_of};
 ghost use Rattle.json_print.specs.Data.{parts};
 ghost use Rattle.json_write.specs.Writing.{WritesDatumTokens};
 
 use crate::KeyRoom;
+use json_io::Result;
 use json_print::Events;
-use json_text::Result;
 
 /// What can be written as JSON. It means a datum: null, a boolean, an integer, a text, a number's
 /// literal, a list, or rows of keys and values.
@@ -26,7 +26,7 @@ pub trait Serialize {
     /// `SerExpectKeyIsStrOrNum` is returned. If the events had returned an error it is returned
     /// again, and nothing changes; else a value has to be allowed there.
     fn serialize<E: Events>(&self, out: &mut E) -> Result<()>
-        requires { AcceptsValue (E.failed out.old) (E.stand (E.state out.old)) }
+        requires { AcceptsValue (E.failed out.old) (E.token_state (E.state out.old)) }
         ensures { WritesDatumTokens E.after E.stopped (E.state out.old) (E.state out.new)
             (E.failed out.old) (E.failed out.new)
             (parts (datum self.now)) result };

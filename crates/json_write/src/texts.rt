@@ -5,8 +5,8 @@ ghost use Rattle.json_write.specs.Building.{FailsOnKeyText};
 
 use crate::Serialize;
 use json_buffer::TextWriter;
+use json_io::{Result, VecSink};
 use json_print::Serializer;
-use json_text::{Result, VecSink};
 use std::alloc::Global;
 
 /// Returns the compact text of the value's tree. Fails with `SerExpectKeyIsStrOrNum` exactly if a

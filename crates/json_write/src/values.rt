@@ -1,6 +1,6 @@
 // Values and views.
 ghost use Rattle.std.specs.Prelude.{map, option_map};
-ghost use Rattle.json_print.specs.Standing.{AcceptsValue};
+ghost use Rattle.json_print.specs.ExpectedEvents.{AcceptsValue};
 ghost use Rattle.json_number.specs.Numbers.{value_of};
 ghost use Rattle.json_value.specs.Denotes.{tree_of, list_in, pairs_in};
 ghost use Rattle.json_value.specs.Seen.{seen, elements_seen, members_seen};
@@ -9,10 +9,10 @@ ghost use Rattle.json_print.specs.Data.{parts};
 ghost use Rattle.json_write.specs.Writing.{WritesDatumTokens};
 ghost use Rattle.json_write.specs.TreeDatum.{tree_datum};
 
-use crate::giving::{begin_list, begin_rows, end_list, end_rows, give_key};
+use crate::event_calls::{begin_list, begin_object, end_list, end_rows, give_key};
 use crate::{KeyRoom, Serialize};
+use json_io::Result;
 use json_print::Events;
-use json_text::Result;
 use json_value::{ArrayView, Container, Keyed, ObjectView, Value, View};
 
 impl Serialize for View<'_> {
@@ -61,7 +61,7 @@ impl Serialize for Value {
 }
 
 fn serialize_elements<E: Events>(view: ArrayView<'_>, out: &mut E) -> Result<()>
-    requires { AcceptsValue (E.failed out.old) (E.stand (E.state out.old)) }
+    requires { AcceptsValue (E.failed out.old) (E.token_state (E.state out.old)) }
     ensures { WritesDatumTokens E.after E.stopped (E.state out.old) (E.state out.new)
         (E.failed out.old) (E.failed out.new)
         (parts (list_datum (list_data (map tree_datum (elements_seen view.entry))))) result }
@@ -90,13 +90,13 @@ impl Serialize for Container<Value> {
 }
 
 fn serialize_members<E: Events>(view: ObjectView<'_>, out: &mut E) -> Result<()>
-    requires { AcceptsValue (E.failed out.old) (E.stand (E.state out.old)) }
+    requires { AcceptsValue (E.failed out.old) (E.token_state (E.state out.old)) }
     ensures { WritesDatumTokens E.after E.stopped (E.state out.old) (E.state out.new)
         (E.failed out.old) (E.failed out.new)
         (parts (rows_datum (list_rows
         (map (row_of text_datum tree_datum) (members_seen view.entry))))) result }
 {
-    begin_rows(Some(view.len()), out)?;
+    begin_object(Some(view.len()), out)?;
     'members: for i in 0..view.len() {
         match view.pair(i) {
             Some((key, value)) => {

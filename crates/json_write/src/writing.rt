@@ -9,8 +9,8 @@ ghost use Rattle.json_write.specs.Sending.{WritesDatum, two_spaces};
 
 use crate::Serialize;
 use crate::key_test::test_keys;
+use json_io::{LentSink, Result, Sink};
 use json_print::{CompactFormatter, Formatter, PrettyFormatter, Serializer};
-use json_text::{LentSink, Result, Sink};
 use std::alloc::Global;
 
 // The text by the calls of a formatter that has written nothing. Gives the writer back.

@@ -4,7 +4,7 @@ use Rattle.json_grammar.specs.Rules.{Rules}
 use Rattle.json_grammar.specs.Sizes.{nodes, trees_nodes}
 use Rattle.json_grammar.specs.Tree.{Tree, null, boolean, num, text, list, pairs, Trees, no_trees, tree_and, trees_list}
 use Rattle.json_grammar.proofs.Sizes.{text_fits, nodes_some}
-use Rattle.json_model.specs.Edit.{Edit, Refusal, not_found, type_unmatched}
+use Rattle.json_model.specs.Edit.{Edit, EditRefusal, not_found, type_unmatched}
 use Rattle.json_io.specs.declared.error.ErrorCode.{ErrorCode}
 use Rattle.json_io.specs.declared.error.ErrorCode.TheVariants.{NoMemory, Io, TooLarge, NotFound, TypeUnmatched}
 use Rattle.json_io.specs.declared.error.Place.{Place}
@@ -17,7 +17,7 @@ use Rattle.json_data.specs.Calls.{TypedReadingFails}
 use Rattle.json_data.specs.Reading.{read_list}
 use Rattle.json_data.specs.ReadingValues.{read_edit}
 use Rattle.json_value.specs.EditTrees.{both, each_in, edit_in, edits_in}
-use Rattle.reshape.specs.Reshape.{Layout, laid_out, Reshapes, ReadsUnfit, ReshapingRefuses}
+use Rattle.reshape.specs.Reshape.{TextLayout, laid_out, Reshapes, ReadsUnfit, ReshapingRefuses}
 use Rattle.reshape.specs.Words.{SpellsEdits}
 use Rattle.reshape.proofs.Spelled.{none_spelled}
 use Rattle.mezdruk_c.specs.Editing.{EditedText, UnfitText, EditingFails, EditsNotRead}
@@ -68,17 +68,17 @@ few_spelled b es s = omega (arith, few_edits s.tree es s.edits, (text_fits false
 
 module _ (rules : Rules) (es : List Edit) where
   -- what an empty sink gained is the text of the edited tree
-  pub edited_text : (l : Layout) (source source' : SourceState) (sink sink' : SinkState) (b out : List ℕ) → Reshapes rules es l source source' sink sink' → source.left ≡ Some b → sink.gained ≡ Some [] → sink'.gained ≡ Some out
+  pub edited_text : (l : TextLayout) (source source' : SourceState) (sink sink' : SinkState) (b out : List ℕ) → Reshapes rules es l source source' sink sink' → source.left ≡ Some b → sink.gained ≡ Some [] → sink'.gained ≡ Some out
       → EditedText rules es (laid_out l) b out
   edited_text l source source' sink sink' b out r known empty gained =
       let appended : sink'.gained ≡ Some (laid_out l r.changed) = r.gains ∙ ap (λ g. append_known g (laid_out l r.changed)) empty in
       record { tree = r.tree; input = input_known rules source source' b r.tree r.reads known; changed = r.changed; applied = r.applied; is = same_some (sym gained ∙ appended) }
 
-  unfit_text : (source source' : SourceState) (b : List ℕ) (number : ℕ) (why : Refusal) → ReadsUnfit rules es source source' number why → source.left ≡ Some b → UnfitText rules es b number why
+  unfit_text : (source source' : SourceState) (b : List ℕ) (number : ℕ) (why : EditRefusal) → ReadsUnfit rules es source source' number why → source.left ≡ Some b → UnfitText rules es b number why
   unfit_text source source' b number why h known = record { tree = h.tree; input = input_known rules source source' b h.tree h.reads known; refused = h.refused }
 
   -- where neither the source nor the sink failed
-  pub not_edited : (l : Layout) (source source' : SourceState) (sink sink' : SinkState) (b : List ℕ) (code : ErrorCode) (place : Place) → ReshapingRefuses rules es l source source' sink sink' code place → source.left ≡ Some b
+  pub not_edited : (l : TextLayout) (source source' : SourceState) (sink sink' : SinkState) (b : List ℕ) (code : ErrorCode) (place : Place) → ReshapingRefuses rules es l source source' sink sink' code place → source.left ≡ Some b
       → ¬ (Rose source.faults source'.faults) → ¬ (Rose sink.faults sink'.faults) → EditingFails rules es b code place
   not_edited l source source' sink sink' b NoMemory nowhere h known reads writes = tt
   not_edited l source source' sink sink' b Io Reading h known reads writes = absurd (reads h.0)

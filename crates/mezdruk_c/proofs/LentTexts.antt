@@ -9,15 +9,15 @@ use Rattle.json_grammar.specs.Tree.{Tree, null, boolean, num, text, list, pairs}
 use Rattle.json_number.specs.Integers.{integer_in}
 use Rattle.json_doc.specs.Docs.{doc_cells, doc_text, doc_tree}
 use Rattle.json_doc.specs.Readings.{literal_of, literal_unless, string_of, object_keys}
-use Rattle.json_doc.specs.Shape.{start_of, span_of}
+use Rattle.json_doc.specs.Shape.{first_byte, span_of}
 use Rattle.json_doc.specs.declared.cell.Cell.{Cell}
 use Rattle.json_doc.specs.declared.cell.Cell.TheVariants as cell
 use Rattle.json_doc.specs.declared.doc.Doc.{Doc}
 use Rattle.json_doc.proofs.Shown.{text_tree_at, num_at, raw_at, no_string_at, no_literal_at}
 use Rattle.mezdruk_c.specs.Lending.{LendsText}
-use Rattle.mezdruk_c.specs.Payloads.{tree_if, node_tree, node_text, member_name}
+use Rattle.mezdruk_c.specs.Payloads.{tree_if, tree_at_node, node_text, member_name}
 use Rattle.mezdruk_c.specs.Trees.{text_or_literal}
-use Rattle.mezdruk_c.specs.declared.parsed.Lent.{Lent}
+use Rattle.mezdruk_c.specs.declared.parsed.BorrowedBytes.{BorrowedBytes}
 use Rattle.mezdruk_c.specs.declared.parsed.Parsed.{Parsed}
 
 -- a range within a list is as long as it says
@@ -26,13 +26,13 @@ range_length bytes start len h =
     let n : (start + len) - start ≤ length (drop start bytes) = omega (arith, length-drop start bytes) in length-take-le ((start + len) - start) (drop start bytes) n ∙ omega arith
 
 -- so many bytes from there on are the text of that range
-pub range_lent : (p : Parsed) (o : Option (List ℕ)) (start len : ℕ) (l : Lent) → o ≡ Some (slice_range (doc_text p.doc.value) start (start + len)) → start + len ≤ length (doc_text p.doc.value) → l.bytes ≡ p.texts +ₚ start → l.length ≡ len
+pub range_lent : (p : Parsed) (o : Option (List ℕ)) (start len : ℕ) (l : BorrowedBytes) → o ≡ Some (slice_range (doc_text p.doc.value) start (start + len)) → start + len ≤ length (doc_text p.doc.value) → l.bytes ≡ p.texts +ₚ start → l.length ≡ len
     → MatchOption o (Some l ≡ None) (λ s. IsSomeAnd (Some l) (λ l. LendsText p s l.bytes l.length))
 range_lent p o start len l is within at n =
     subst (λ (o : Option (List ℕ)). MatchOption o (Some l ≡ None) (λ s. IsSomeAnd (Some l) (λ l. LendsText p s l.bytes l.length))) (sym is)
     (record { start = start; counted = n ∙ sym (range_length (doc_text p.doc.value) start len within); among = ap (λ (k : ℕ). slice_range (doc_text p.doc.value) start (start + k)) n; at = at })
 
-abbrev nothing : Option Lent
+abbrev nothing : Option BorrowedBytes
 nothing = None
 
 -- no text is lent where there is none
@@ -48,15 +48,15 @@ no_text (list ts) h k = refl
 no_text (pairs ps) h k = refl
 
 module _ (d : Doc) (node : ℕ) (inside : node < length (doc_cells d)) where
-  pub tree_here : node_tree d node ≡ Some (doc_tree d node)
+  pub tree_here : tree_at_node d node ≡ Some (doc_tree d node)
   tree_here = ap (λ (b : Bool). tree_if b (doc_tree d node)) (lt-ltb node (length (doc_cells d)) inside)
 
   text_here : node_text d node ≡ text_or_literal (doc_tree d node)
   text_here = ap (option_and_then text_or_literal) tree_here
 
   module _ (c : Cell) (is : c ≡ get_or (doc_cells d) node cell.Null) where
-    pub within : (start len : ℕ) → start_of c ≡ start → span_of c ≡ len → start + len ≤ length (doc_text d)
-    within start len e f = let h = (d.in_place node inside).ends.0 in let g : start_of c + span_of c ≤ length (doc_text d) = subst (λ (c : Cell). start_of c + span_of c ≤ length (doc_text d)) (sym is) h in omega (arith, g, e, f)
+    pub within : (start len : ℕ) → first_byte c ≡ start → span_of c ≡ len → start + len ≤ length (doc_text d)
+    within start len e f = let h = (d.in_place node inside).ends.0 in let g : first_byte c + span_of c ≤ length (doc_text d) = subst (λ (c : Cell). first_byte c + span_of c ≤ length (doc_text d)) (sym is) h in omega (arith, g, e, f)
 
     pub string_here : (start len : ℕ) → c ≡ cell.Str start len → node_text d node ≡ Some (slice_range (doc_text d) start (start + len))
     string_here start len e = text_here ∙ ap text_or_literal (text_tree_at d node c inside is start len e)

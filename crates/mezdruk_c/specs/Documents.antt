@@ -19,8 +19,8 @@ abbrev pub document_node_tree : Document → ℕ → Option Tree
 document_node_tree d node = tree_owned (owned_payload d.owner) node
 
 -- the bytes of the string at a node, or the literal of a number that is no integer of 64 bits
-abbrev pub text_at : Document → ℕ → Option (List ℕ)
-text_at d node = option_and_then text_or_literal (document_node_tree d node)
+abbrev pub document_node_text : Document → ℕ → Option (List ℕ)
+document_node_text d node = option_and_then text_or_literal (document_node_tree d node)
 
 -- the name of the member at an index of the object at a node
 abbrev pub name_at : Document → ℕ → ℕ → Option (List ℕ)

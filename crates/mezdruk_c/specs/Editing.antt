@@ -3,7 +3,7 @@ use Rattle.std.specs.Prelude.{◌≡◌, ◌⊎◌, ℕ, List, Some, Err, Ok}
 use Rattle.json_grammar.specs.Tree.{Tree}
 use Rattle.json_grammar.specs.Rules.{Rules}
 use Rattle.json_command.specs.Input.{IsInput}
-use Rattle.json_model.specs.Edit.{Edit, edited, Refusal, not_found, type_unmatched}
+use Rattle.json_model.specs.Edit.{Edit, edited, EditRefusal, not_found, type_unmatched}
 use Rattle.json_io.specs.declared.error.ErrorCode.{ErrorCode}
 use Rattle.json_io.specs.declared.error.ErrorCode.TheVariants.{NoMemory, NotFound, TypeUnmatched}
 use Rattle.json_data.specs.Calls.{TypedReadingFails}
@@ -27,7 +27,7 @@ pub record EditedText (rules : Rules) (es : List Edit) (print : Tree → List �
   pub is : output ≡ print changed
 
 -- the text is one of a tree by the rules, and the edit of this number is the first that does not apply to it
-pub record UnfitText (rules : Rules) (es : List Edit) (text : List ℕ) (number : ℕ) (why : Refusal) : Type 0 where
+pub record UnfitText (rules : Rules) (es : List Edit) (text : List ℕ) (number : ℕ) (why : EditRefusal) : Type 0 where
   pub tree : Tree
   pub input : IsInput rules text tree
   pub refused : edited es tree ≡ Err (number, why)

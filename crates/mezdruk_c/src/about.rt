@@ -14,7 +14,7 @@ pub extern "C" fn mezdruk_version(version: &mut Slice)
 }
 
 // Returns the name of a code.
-fn name_of(code: u8) -> Option<&'static [u8]>
+fn name_of_code(code: u8) -> Option<&'static [u8]>
     ensures { option_map (λ s. s.now) result ≡ code_name code }
 {
     match code {
@@ -55,7 +55,7 @@ pub extern "C" fn mezdruk_code_name(code: u8, name: &mut Slice) -> bool
     ensures lacks { OnFalse result (code_name code ≡ None) }
     ensures untouched { OnFalse result (name.new ≡ name.old) }
 {
-    match name_of(code) {
+    match name_of_code(code) {
         Some(bytes) => {
             *name = Slice { bytes };
             true

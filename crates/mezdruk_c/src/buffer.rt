@@ -4,7 +4,7 @@ ghost use Rattle.mezdruk_c.specs.Shown.{shown_length, shown_at};
 
 use crate::owner::Owner;
 use crate::payload::Payload;
-use json_text::Result;
+use json_io::Result;
 use std::alloc::Global;
 use std::ptr::null;
 
@@ -12,7 +12,7 @@ use std::ptr::null;
 /// another result. Memory of zeros is a buffer of no bytes.
 #[repr(C)]
 #[derive(Drop)]
-pub struct Buffer {
+pub struct ResultBuffer {
     bytes: *const u8,
     length: usize,
     owner: Owner,
@@ -20,15 +20,15 @@ pub struct Buffer {
     ghost pointed: { bytes ≡ shown_at owner.held.full owner.held.value },
 }
 
-impl Buffer {
+impl ResultBuffer {
     ghost use Rattle.json_io.specs.Errors.{OnlyNoMemory};
     ghost use Rattle.mezdruk_c.specs.Buffers.{buffer_bytes};
 
     /// A buffer of no bytes.
-    pub fn empty(alloc: Global) -> Buffer
+    pub fn empty(alloc: Global) -> ResultBuffer
         ensures { buffer_bytes result ≡ [] }
     {
-        Buffer {
+        ResultBuffer {
             bytes: null(),
             length: 0,
             owner: Owner::empty(alloc),
@@ -36,13 +36,13 @@ impl Buffer {
     }
 
     /// A buffer of the bytes. Fails with `NoMemory` if memory runs out.
-    pub fn of(alloc: Global, vec: Vec<u8>) -> Result<Buffer>
+    pub fn of(alloc: Global, vec: Vec<u8>) -> Result<ResultBuffer>
         ensures ok { IfOk result (λ b. buffer_bytes b ≡ vec.items) }
         ensures only { OnlyNoMemory result }
     {
         let (bytes, length) = (vec.as_ptr(), vec.len());
         match Box::new(alloc, Payload::Bytes(vec)) {
-            Ok(payload) => Ok(Buffer {
+            Ok(payload) => Ok(ResultBuffer {
                 bytes,
                 length,
                 owner: Owner::of(payload),

@@ -2,15 +2,15 @@
 ghost use Rattle.std.specs.Prelude.{◌≡◌, ◌↔◌, None, Some, IfSome, IsSome, IsTrue};
 ghost use Rattle.std.specs.Bool.{OnTrue, OnFalse};
 ghost use Rattle.mezdruk_c.specs.Copying.{CopiesText};
-ghost use Rattle.mezdruk_c.specs.Documents.{document_node_tree, text_at, name_at, real_at, IsSameDocument, IsChildNode, IsAfterNode};
+ghost use Rattle.mezdruk_c.specs.Documents.{document_node_tree, document_node_text, name_at, real_at, IsSameDocument, IsChildNode, IsAfterNode};
 ghost use Rattle.mezdruk_c.specs.Nodes.{ShowsTree};
-ghost use Rattle.mezdruk_c.specs.Payloads.{element_of, member_of};
+ghost use Rattle.mezdruk_c.specs.Payloads.{element_tree, member_tree};
 
 use crate::document::Document;
 use crate::node::Node;
 use crate::owner::Owner;
 use crate::reading::{
-    after_in, copy_found, element_in, member_in, name_in, node_in, real_in, text_in,
+    after_in, code_name_in, copy_found, element_in, member_in, node_in, real_in, text_slice,
 };
 use std::alloc::Global;
 
@@ -53,10 +53,10 @@ pub extern "C" fn mezdruk_element(
     element: &mut u32,
 ) -> bool
     ensures found { OnTrue result (document_node_tree document.old element.new
-        ≡ element_of (document_node_tree document.old node) index) }
+        ≡ element_tree (document_node_tree document.old node) index) }
     ensures numbered { OnTrue result (IsChildNode document.old node index element.new) }
     ensures lacks { OnFalse result
-        (element_of (document_node_tree document.old node) index ≡ None) }
+        (element_tree (document_node_tree document.old node) index ≡ None) }
     ensures untouched { OnFalse result (element.new ≡ element.old) }
     ensures kept { IsSameDocument document.old document.new }
 {
@@ -85,9 +85,9 @@ pub extern "C" fn mezdruk_member(
     value: &mut u32,
 ) -> bool
     ensures found { OnTrue result (document_node_tree document.old value.new
-        ≡ member_of (document_node_tree document.old node) index) }
+        ≡ member_tree (document_node_tree document.old node) index) }
     ensures numbered { OnTrue result (IsChildNode document.old node index value.new) }
-    ensures lacks { OnFalse result (member_of (document_node_tree document.old node) index ≡ None) }
+    ensures lacks { OnFalse result (member_tree (document_node_tree document.old node) index ≡ None) }
     ensures untouched { OnFalse result (value.new ≡ value.old) }
     ensures kept { IsSameDocument document.old document.new }
 {
@@ -115,8 +115,8 @@ pub extern "C" fn mezdruk_text(
     bytes: &mut [u8],
     length: &mut usize,
 ) -> bool
-    ensures known { IsTrue result ↔ IsSome (text_at document.old node) }
-    ensures copied { OnTrue result (IfSome (text_at document.old node)
+    ensures known { IsTrue result ↔ IsSome (document_node_text document.old node) }
+    ensures copied { OnTrue result (IfSome (document_node_text document.old node)
         (CopiesText bytes.old bytes.new length.new)) }
     ensures untouched { OnFalse result ((bytes.new ≡ bytes.old) × (length.new ≡ length.old)) }
     ensures kept { IsSameDocument document.old document.new }
@@ -124,7 +124,7 @@ pub extern "C" fn mezdruk_text(
     let Some(payload) = document.owner.take(alloc) else {
         return false;
     };
-    let copied = copy_found(text_in(&payload, node), bytes);
+    let copied = copy_found(text_slice(&payload, node), bytes);
     document.owner = Owner::of(payload);
     match copied {
         Some(n) => {
@@ -155,7 +155,7 @@ pub extern "C" fn mezdruk_name(
     let Some(payload) = document.owner.take(alloc) else {
         return false;
     };
-    let copied = copy_found(name_in(&payload, node, index), bytes);
+    let copied = copy_found(code_name_in(&payload, node, index), bytes);
     document.owner = Owner::of(payload);
     match copied {
         Some(n) => {

@@ -9,8 +9,8 @@ ghost use Rattle.mezdruk_c.specs.Checking.{CheckFails};
 ghost use Rattle.mezdruk_c.specs.Faults.{CallFailsFor, fault_at};
 
 use crate::failure::Failure;
-use crate::fault::{Fault, settle};
-use crate::input::read_text;
+use crate::fault::{FaultReport, report_outcome};
+use crate::input::read_input;
 use crate::options::Options;
 use std::alloc::Global;
 
@@ -23,7 +23,7 @@ fn check(alloc: Global, text: &[u8], options: &Options) -> Result<(), Failure>
     let Some(rules) = options.rules() else {
         return Err(Failure::Options);
     };
-    match read_text(alloc, text, rules) {
+    match read_input(alloc, text, rules) {
         Ok(_) => Ok(()),
         Err(error) => Err(Failure::Text(error)),
     }
@@ -37,7 +37,7 @@ pub extern "C" fn mezdruk_check(
     alloc: Global,
     text: &[u8],
     options: &Options,
-    fault: &mut Fault,
+    fault: &mut FaultReport,
 ) -> u8
     ensures allowed { result ≡ 0 → HasRules options.now }
     ensures valid { result ≡ 0 → IsValid (rules_of_options options.now) text.now }
@@ -48,5 +48,5 @@ pub extern "C" fn mezdruk_check(
         → InputFault (rules_of_options options.now) text.now code place
         → ((result ≡ 1) × (fault.new ≡ fault_at (number_of code) place)) ⊎ (result ≡ 6) }
 {
-    settle(check(alloc, text, options), fault)
+    report_outcome(check(alloc, text, options), fault)
 }

@@ -5,7 +5,7 @@ use crate::owner::Owner;
 use crate::parsed::Parsed;
 use crate::payload::Payload;
 use json_doc::Doc;
-use json_text::Result;
+use json_io::Result;
 use std::alloc::Global;
 use std::rc::Rc;
 

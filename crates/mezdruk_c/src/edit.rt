@@ -9,13 +9,14 @@ ghost use Rattle.mezdruk_c.specs.Buffers.{buffer_bytes};
 ghost use Rattle.mezdruk_c.specs.Editing.{EditedText, EditingFails, EditsNotRead, EditsText, EditFails};
 ghost use Rattle.mezdruk_c.specs.Faults.{CallFailsFor};
 
-use crate::buffer::Buffer;
+use crate::buffer::ResultBuffer;
 use crate::failure::Failure;
-use crate::fault::{Fault, give};
+use crate::fault::{FaultReport, give};
 use crate::options::Options;
 use json_data::from_slice;
-use json_print::Style;
-use json_text::{Result as TextResult, Rules, SliceSource, VecSink};
+use json_io::{Result as TextResult, SliceSource, VecSink};
+use json_layout::Style;
+use json_text::Rules;
 use json_value::Edit;
 use reshape::reshape_with;
 use std::alloc::Global;
@@ -38,7 +39,7 @@ fn edit_text(
     edits: &[Edit],
     style: Style<'_>,
     rules: Rules,
-) -> TextResult<Buffer>
+) -> TextResult<ResultBuffer>
     requires { length edits.now < 2 ^ 32 }
     ensures ok { IfOk result (λ b. EditedText (rules_of rules) (map edit_of edits.now)
         (printed style.entry) text.now (buffer_bytes b)) }
@@ -48,13 +49,18 @@ fn edit_text(
     let mut source = SliceSource::new(text);
     let mut sink = VecSink::new(alloc);
     match reshape_with(alloc, &mut source, &mut sink, edits, style, rules) {
-        Ok(()) => Buffer::of(alloc, sink.into_vec()),
+        Ok(()) => ResultBuffer::of(alloc, sink.into_vec()),
         Err(error) => Err(error),
     }
 }
 
 // Returns the text of the edited tree, by the options.
-fn edit(alloc: Global, text: &[u8], edits: &[u8], options: &Options) -> Result<Buffer, Failure>
+fn edit(
+    alloc: Global,
+    text: &[u8],
+    edits: &[u8],
+    options: &Options,
+) -> Result<ResultBuffer, Failure>
     ensures allowed { OnOk result (AreOptions options.now) }
     ensures done { IfOk result (λ b. EditsText options.now text.now edits.now (buffer_bytes b)) }
     ensures failed { IfErr result (EditFails options.now text.now edits.now) }
@@ -81,8 +87,8 @@ pub extern "C" fn mezdruk_edit(
     text: &[u8],
     edits: &[u8],
     options: &Options,
-    output: &mut Buffer,
-    fault: &mut Fault,
+    output: &mut ResultBuffer,
+    fault: &mut FaultReport,
 ) -> u8
     ensures allowed { result ≡ 0 → AreOptions options.now }
     ensures done { result ≡ 0

@@ -2,8 +2,8 @@
 ghost use Rattle.std.specs.Prelude.{◌≡◌};
 ghost use Rattle.mezdruk_c.specs.Failures.{argument_status_of, text_status_of, patch_status_of, status_of_failure};
 
+use json_io::{Error, ErrorCode};
 use json_patch::{PatchCode, PatchError};
-use json_text::{Error, ErrorCode};
 
 /// Why a call failed.
 #[derive(Clone, Copy)]
@@ -40,7 +40,7 @@ fn text_status(code: ErrorCode) -> u8
 }
 
 // Returns the status of a patch that does not apply.
-fn patch_status(code: PatchCode) -> u8
+fn patch_status_code(code: PatchCode) -> u8
     ensures { result ≡ patch_status_of code }
 {
     match code {
@@ -59,7 +59,7 @@ impl Failure {
             Failure::Options => 2,
             Failure::Argument(error) => argument_status(error.code),
             Failure::Text(error) => text_status(error.code),
-            Failure::Patch(error) => patch_status(error.code),
+            Failure::Patch(error) => patch_status_code(error.code),
         }
     }
 }

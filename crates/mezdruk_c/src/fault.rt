@@ -3,9 +3,9 @@ ghost use Rattle.std.specs.Prelude.{◌≡◌};
 ghost use Rattle.mezdruk_c.specs.Faults.{fault_with, fault_at, fault_in, fault_of, TellsOutcome};
 ghost use Rattle.mezdruk_c.specs.Given.{ReturnsBuffer};
 
-use crate::buffer::Buffer;
+use crate::buffer::ResultBuffer;
 use crate::failure::Failure;
-use json_text::Place;
+use json_io::Place;
 
 /// The offset and the item of a fault that has none.
 const NONE: usize = usize::MAX;
@@ -16,7 +16,7 @@ const BAD_OPTIONS: u8 = 32;
 /// What C learns of a failure.
 #[repr(C)]
 #[derive(Clone, Copy)]
-pub struct Fault {
+pub struct FaultReport {
     /// The offset in bytes, or the greatest number of the type if no position is known.
     pub offset: usize,
     /// The line, counted from 1, or 0.
@@ -30,12 +30,12 @@ pub struct Fault {
     pub code: u8,
 }
 
-impl Fault {
+impl FaultReport {
     // A fault without a position.
-    fn unplaced(code: u8, item: usize) -> Fault
+    fn unplaced(code: u8, item: usize) -> FaultReport
         ensures { result ≡ fault_with code item }
     {
-        Fault {
+        FaultReport {
             offset: NONE,
             line: 0,
             column: 0,
@@ -45,7 +45,7 @@ impl Fault {
     }
 
     // The fault of a code at a place.
-    fn at(code: u8, place: Place) -> Fault
+    fn at(code: u8, place: Place) -> FaultReport
         ensures { result ≡ fault_at code place }
     {
         match place {
@@ -53,44 +53,48 @@ impl Fault {
                 offset,
                 line,
                 column,
-            } => Fault {
+            } => FaultReport {
                 offset,
                 line,
                 column,
                 item: NONE,
                 code,
             },
-            Place::Edit(number) => Fault::unplaced(code, number as usize),
-            _ => Fault::unplaced(code, NONE),
+            Place::Edit(number) => FaultReport::unplaced(code, number as usize),
+            _ => FaultReport::unplaced(code, NONE),
         }
     }
 
     // The fault of a code in an operation.
-    fn in_operation(code: u8, op: Option<u32>) -> Fault
+    fn in_operation(code: u8, op: Option<u32>) -> FaultReport
         ensures { result ≡ fault_in code op }
     {
         match op {
-            Some(number) => Fault::unplaced(code, number as usize),
-            None => Fault::unplaced(code, NONE),
+            Some(number) => FaultReport::unplaced(code, number as usize),
+            None => FaultReport::unplaced(code, NONE),
         }
     }
 
     /// The fault of a failure.
-    pub fn of(failure: &Failure) -> Fault
+    pub fn of(failure: &Failure) -> FaultReport
         ensures { result ≡ fault_of failure.now }
     {
         match failure {
-            Failure::Options => Fault::unplaced(BAD_OPTIONS, NONE),
-            Failure::Argument(error) => Fault::at(error.code.number(), error.place),
-            Failure::Text(error) => Fault::at(error.code.number(), error.place),
-            Failure::Patch(error) => Fault::in_operation(error.code.number(), error.op),
+            Failure::Options => FaultReport::unplaced(BAD_OPTIONS, NONE),
+            Failure::Argument(error) => FaultReport::at(error.code.number(), error.place),
+            Failure::Text(error) => FaultReport::at(error.code.number(), error.place),
+            Failure::Patch(error) => FaultReport::in_operation(error.code.number(), error.op),
         }
     }
 }
 
 /// Returns the status of an outcome, 0 for a success, and writes the buffer of a success or the
 /// fault of a failure.
-pub fn give(outcome: Result<Buffer, Failure>, output: &mut Buffer, fault: &mut Fault) -> u8
+pub fn give(
+    outcome: Result<ResultBuffer, Failure>,
+    output: &mut ResultBuffer,
+    fault: &mut FaultReport,
+) -> u8
     ensures { ReturnsBuffer outcome output.old output.new result fault.new }
 {
     match outcome {
@@ -99,20 +103,20 @@ pub fn give(outcome: Result<Buffer, Failure>, output: &mut Buffer, fault: &mut F
             0
         }
         Err(failure) => {
-            *fault = Fault::of(&failure);
+            *fault = FaultReport::of(&failure);
             failure.status()
         }
     }
 }
 
 /// Returns the status of an outcome, 0 for a success, and writes the fault of a failure.
-pub fn settle(outcome: Result<(), Failure>, fault: &mut Fault) -> u8
+pub fn report_outcome(outcome: Result<(), Failure>, fault: &mut FaultReport) -> u8
     ensures { TellsOutcome outcome result fault.new }
 {
     match outcome {
         Ok(()) => 0,
         Err(failure) => {
-            *fault = Fault::of(&failure);
+            *fault = FaultReport::of(&failure);
             failure.status()
         }
     }

@@ -3,16 +3,16 @@ ghost use Rattle.std.specs.Prelude.{◌≡◌, [], None};
 ghost use Rattle.mezdruk_c.specs.Buffers.{buffer_bytes};
 ghost use Rattle.mezdruk_c.specs.Owned.{owned_payload};
 
-use crate::buffer::Buffer;
+use crate::buffer::ResultBuffer;
 use crate::document::Document;
 use std::alloc::Global;
 
 /// Frees the bytes of a buffer, which has none then. A buffer of no bytes stays so.
 #[unsafe(no_mangle)]
-pub extern "C" fn mezdruk_free(alloc: Global, buffer: &mut Buffer)
+pub extern "C" fn mezdruk_free(alloc: Global, buffer: &mut ResultBuffer)
     ensures { buffer_bytes buffer.new ≡ [] }
 {
-    *buffer = Buffer::empty(alloc);
+    *buffer = ResultBuffer::empty(alloc);
 }
 
 /// Frees a document, which is empty then. An empty document stays so.

@@ -3,7 +3,7 @@ ghost use Rattle.std.specs.Prelude.{◌≡◌, Bool, true, false};
 ghost use Rattle.mezdruk_c.specs.declared.payload.Payload.{Payload};
 ghost use Rattle.mezdruk_c.specs.Held.{payload_coded, held_owns};
 
-use crate::parts::Parts;
+use crate::parts::PointerParts;
 use crate::payload::Payload;
 use std::alloc::Global;
 use std::marker::Model;
@@ -11,31 +11,31 @@ use std::ptr::null_mut;
 
 /// A pointer that owns a boxed value if `full` says so, and else owns nothing.
 #[repr(C)]
-pub struct Held {
+pub struct BoxedPointer {
     ptr: *mut u8,
     alloc: Global,
     pub ghost full: { Bool },
     pub ghost value: { Payload } by { payload_coded },
 }
 
-impl Model for Held {
+impl Model for BoxedPointer {
     ghost also_owns = { λ h. held_owns h.full h.alloc h.ptr h.value };
 }
 
-impl Held {
+impl BoxedPointer {
     /// A pointer that owns the value.
-    pub fn of(payload: Box<Payload>) -> Held
+    pub fn of(payload: Box<Payload>) -> BoxedPointer
         ensures full { result.full ≡ true }
         ensures value { result.value ≡ payload.value }
     {
-        Held::of_parts(Parts::of(payload))
+        BoxedPointer::of_parts(PointerParts::of(payload))
     }
 
     /// The null pointer, which owns nothing.
-    pub fn none(alloc: Global) -> Held
+    pub fn none(alloc: Global) -> BoxedPointer
         ensures full { result.full ≡ false }
     {
-        Held {
+        BoxedPointer {
             ptr: null_mut(),
             alloc,
         }
@@ -53,25 +53,25 @@ impl Held {
     pub fn discard(self)
         requires { self.full ≡ false }
     {
-        let Held { ptr: _, alloc: _ } = self;
+        let BoxedPointer { ptr: _, alloc: _ } = self;
     }
 
-    fn of_parts(parts: Parts<Payload, Global>) -> Held
+    fn of_parts(parts: PointerParts<Payload, Global>) -> BoxedPointer
         ensures { (result.full ≡ true) × (result.value ≡ parts.value) }
     {
-        let Parts { ptr, alloc } = parts;
-        Held {
+        let PointerParts { ptr, alloc } = parts;
+        BoxedPointer {
             ptr: ptr as *mut u8,
             alloc,
         }
     }
 
-    fn into_parts(self) -> Parts<Payload, Global>
+    fn into_parts(self) -> PointerParts<Payload, Global>
         requires { self.full ≡ true }
         ensures { result.value ≡ self.value }
     {
-        let Held { ptr, alloc } = self;
-        Parts {
+        let BoxedPointer { ptr, alloc } = self;
+        PointerParts {
             ptr: ptr as *mut Payload,
             alloc,
         }

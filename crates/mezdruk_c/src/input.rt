@@ -6,7 +6,8 @@ ghost use Rattle.json_command.specs.Input.{IsInput};
 ghost use Rattle.mezdruk_c.specs.Texts.{ReadingTextFails};
 
 use json_doc::{Doc, read_document_with};
-use json_text::{Error, ErrorCode, Place, Result, Rules, check_utf8};
+use json_io::{Error, ErrorCode, Place, Result, check_utf8};
+use json_text::Rules;
 use std::alloc::Global;
 use std::rc::Rc;
 
@@ -16,7 +17,7 @@ const MAX_BYTES: usize = 4_294_967_295;
 /// Returns the document of a text (RFC 8259). Fails with `TooLarge` if it has more than
 /// 4,294,967,295 bytes, with `InvalidUTF8` or a fault of the grammar by the rules at its offset,
 /// and with `NoMemory` if memory runs out.
-pub fn read_text(alloc: Global, text: &[u8], rules: Rules) -> Result<Rc<Doc>>
+pub fn read_input(alloc: Global, text: &[u8], rules: Rules) -> Result<Rc<Doc>>
     ensures ok { IfOk result (λ d. IsInput (rules_of rules) text.now
         (doc_tree d.value (doc_root d.value))) }
     ensures failed { IfErr result (λ e. ReadingTextFails (rules_of rules) text.now e.code e.place) }

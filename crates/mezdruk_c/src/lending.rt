@@ -2,7 +2,7 @@
 ghost use Rattle.std.specs.Prelude.{◌≡◌, ◌↔◌, None, IfSome, IsSome, IsSomeAnd, IsTrue, MatchOption};
 ghost use Rattle.std.specs.Bool.{OnTrue, OnFalse};
 ghost use Rattle.std.specs.Option.{option_and_then};
-ghost use Rattle.mezdruk_c.specs.Documents.{text_at, name_at, IsSameDocument};
+ghost use Rattle.mezdruk_c.specs.Documents.{document_node_text, name_at, IsSameDocument};
 ghost use Rattle.mezdruk_c.specs.Lending.{LendsIn, LendsOwned};
 ghost use Rattle.mezdruk_c.specs.Owned.{owned_payload};
 ghost use Rattle.mezdruk_c.specs.Payloads.{tree_in, member_name};
@@ -10,12 +10,12 @@ ghost use Rattle.mezdruk_c.specs.Trees.{text_or_literal};
 
 use crate::document::Document;
 use crate::owner::Owner;
-use crate::parsed::Lent;
+use crate::parsed::BorrowedBytes;
 use crate::payload::Payload;
 use std::alloc::Global;
 
 // Lends the bytes of a string or a literal.
-fn lend_in(payload: &Payload, node: u32) -> Option<Lent>
+fn lend_in(payload: &Payload, node: u32) -> Option<BorrowedBytes>
     ensures { MatchOption (option_and_then text_or_literal (tree_in payload.now node))
         (result ≡ None) (λ s. IsSomeAnd result (λ l. LendsIn payload.now s l.bytes l.length)) }
 {
@@ -26,7 +26,7 @@ fn lend_in(payload: &Payload, node: u32) -> Option<Lent>
 }
 
 // Lends the name of a member.
-fn lend_name_in(payload: &Payload, node: u32, index: usize) -> Option<Lent>
+fn lend_name_in(payload: &Payload, node: u32, index: usize) -> Option<BorrowedBytes>
     ensures { MatchOption (member_name (tree_in payload.now node) index)
         (result ≡ None) (λ s. IsSomeAnd result (λ l. LendsIn payload.now s l.bytes l.length)) }
 {
@@ -47,8 +47,8 @@ pub extern "C" fn mezdruk_lend(
     bytes: &mut *const u8,
     length: &mut usize,
 ) -> bool
-    ensures known { IsTrue result ↔ IsSome (text_at document.old node) }
-    ensures lent { OnTrue result (IfSome (text_at document.old node)
+    ensures known { IsTrue result ↔ IsSome (document_node_text document.old node) }
+    ensures lent { OnTrue result (IfSome (document_node_text document.old node)
         (λ s. LendsOwned (owned_payload document.old.owner) s bytes.new length.new)) }
     ensures untouched { OnFalse result ((bytes.new ≡ bytes.old) × (length.new ≡ length.old)) }
     ensures kept { IsSameDocument document.old document.new }

@@ -1,6 +1,6 @@
 // What is read of a node at once.
 ghost use Rattle.std.specs.Prelude.{◌≡◌, ℕ, option_map};
-ghost use Rattle.json_doc.specs.Readings.{bool_of, integer_of};
+ghost use Rattle.json_doc.specs.Readings.{bool_of, integer_in_tree};
 ghost use Rattle.json_doc.specs.Seen.{view_tree};
 ghost use Rattle.mezdruk_c.specs.Trees.{boolean_number, integer_shown, text_or_literal, length_shown};
 ghost use Rattle.mezdruk_c.specs.Nodes.{ShowsTree};
@@ -38,7 +38,7 @@ fn boolean_as(boolean: Option<bool>) -> u8
 
 // Returns the form of the integer of a number, and the integer.
 fn integer_as(view: DocView<'_>) -> (u8, u64, i64)
-    ensures { integer_shown result.0 result.1 result.2 ≡ integer_of (view_tree view.entry) }
+    ensures { integer_shown result.0 result.1 result.2 ≡ integer_in_tree (view_tree view.entry) }
 {
     match view.as_number() {
         Some(number) => match number.integer() {
@@ -50,7 +50,7 @@ fn integer_as(view: DocView<'_>) -> (u8, u64, i64)
 }
 
 /// Returns the bytes of a string, or the literal of a number that is no integer of 64 bits.
-pub fn text_of(view: DocView<'_>) -> Option<&str>
+pub fn node_string(view: DocView<'_>) -> Option<&str>
     ensures { option_map (λ s. s.now) result ≡ text_or_literal (view_tree view.entry) }
 {
     match view.text() {
@@ -63,7 +63,7 @@ pub fn text_of(view: DocView<'_>) -> Option<&str>
 fn length_of(view: DocView<'_>) -> usize
     ensures { result ≡ length_shown (view_tree view.entry) }
 {
-    match text_of(view) {
+    match node_string(view) {
         Some(text) => text.len(),
         None => view.len(),
     }

@@ -4,7 +4,7 @@ ghost use Rattle.json_model.specs.Print.{IsIndent};
 ghost use Rattle.json_layout.specs.Styles.{indent_of, is_sorted};
 ghost use Rattle.mezdruk_c.specs.Layouts.{indent_asked};
 
-use json_print::Style;
+use json_layout::Style;
 use json_text::Rules;
 
 /// How a text is read and laid out.
@@ -24,7 +24,7 @@ pub struct Options {
 
 /// What options ask for.
 #[derive(Clone, Copy)]
-pub struct Asked {
+pub struct RequestedSettings {
     /// The rules by which a text is read.
     pub rules: Rules,
     /// The style of the result.
@@ -91,13 +91,13 @@ impl Options {
     }
 
     /// Returns the rules and the style, or `None` if the options are not valid.
-    pub fn asked(&self) -> Option<Asked>
+    pub fn asked(&self) -> Option<RequestedSettings>
         ensures { MatchOption result (¬ (AreOptions self.now))
             (λ a. AreOptions self.now × (rules_of a.rules ≡ rules_of_options self.now)
             × ((tree : Tree) → text_by_options self.now tree ≡ Some (printed a.style tree))) }
     {
         match (self.rules(), self.style()) {
-            (Some(rules), Some(style)) => Some(Asked { rules, style }),
+            (Some(rules), Some(style)) => Some(RequestedSettings { rules, style }),
             (_, _) => None,
         }
     }

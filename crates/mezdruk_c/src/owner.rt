@@ -1,7 +1,7 @@
 // What C keeps of a value.
 ghost use Rattle.std.specs.Prelude.{◌≡◌, None, Some, option_map};
 
-use crate::held::Held;
+use crate::held::BoxedPointer;
 use crate::payload::Payload;
 use std::alloc::Global;
 use std::mem::replace;
@@ -10,7 +10,7 @@ use std::mem::replace;
 #[repr(C)]
 pub struct Owner {
     full: bool,
-    held: Held,
+    held: BoxedPointer,
     ghost agrees: { full ≡ held.full },
 }
 
@@ -23,7 +23,7 @@ impl Owner {
     {
         Owner {
             full: false,
-            held: Held::none(alloc),
+            held: BoxedPointer::none(alloc),
         }
     }
 
@@ -33,7 +33,7 @@ impl Owner {
     {
         Owner {
             full: true,
-            held: Held::of(payload),
+            held: BoxedPointer::of(payload),
         }
     }
 

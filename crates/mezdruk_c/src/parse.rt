@@ -7,8 +7,8 @@ ghost use Rattle.mezdruk_c.specs.Parsing.{IsDocumentOf, KeepsDocument};
 
 use crate::document::Document;
 use crate::failure::Failure;
-use crate::fault::{Fault, settle};
-use crate::input::read_text;
+use crate::fault::{FaultReport, report_outcome};
+use crate::input::read_input;
 use crate::options::Options;
 use std::alloc::Global;
 
@@ -21,7 +21,7 @@ fn parse(alloc: Global, text: &[u8], options: &Options) -> Result<Document, Fail
     let Some(rules) = options.rules() else {
         return Err(Failure::Options);
     };
-    match read_text(alloc, text, rules) {
+    match read_input(alloc, text, rules) {
         Ok(doc) => match Document::of(alloc, doc) {
             Ok(document) => Ok(document),
             Err(error) => Err(Failure::Text(error)),
@@ -51,12 +51,12 @@ pub extern "C" fn mezdruk_parse(
     text: &[u8],
     options: &Options,
     document: &mut Document,
-    fault: &mut Fault,
+    fault: &mut FaultReport,
 ) -> u8
     ensures allowed { result ≡ 0 → HasRules options.now }
     ensures done { result ≡ 0 → IsDocumentOf options.now text.now document.new }
     ensures failed { result ≢ 0 → CallFailsFor (CheckFails options.now text.now) result fault.new }
     ensures kept { result ≢ 0 → document.new ≡ document.old }
 {
-    settle(keep(parse(alloc, text, options), document), fault)
+    report_outcome(keep(parse(alloc, text, options), document), fault)
 }

@@ -20,7 +20,7 @@ pub struct Parsed {
 
 /// Bytes that a document lends: `length` bytes at `bytes`.
 #[derive(Clone, Copy)]
-pub struct Lent {
+pub struct BorrowedBytes {
     /// The address of the first.
     pub bytes: *const u8,
     /// How many bytes there are.
@@ -28,7 +28,7 @@ pub struct Lent {
 }
 
 // Returns the cell of a node.
-fn cell_at(doc: &Doc, node: u32) -> Cell
+fn node_cell(doc: &Doc, node: u32) -> Cell
     requires { node < length (doc_cells doc.now) }
     ensures { result ≡ slice_index_or (doc_cells doc.now) node null_cell }
 {
@@ -38,7 +38,7 @@ fn cell_at(doc: &Doc, node: u32) -> Cell
 impl Parsed {
     ghost use Rattle.std.specs.Prelude.{MatchOption, None, IsSomeAnd};
     ghost use Rattle.mezdruk_c.specs.Lending.{LendsText};
-    ghost use Rattle.mezdruk_c.specs.Payloads.{node_tree, node_text, member_name};
+    ghost use Rattle.mezdruk_c.specs.Payloads.{tree_at_node, node_text, member_name};
     ghost use denote.RawPtr.{◌+ₚ◌};
 
     /// Holds a document.
@@ -50,11 +50,11 @@ impl Parsed {
     }
 
     // Lends a range of the texts.
-    fn range(&self, start: u32, len: u32) -> Lent
+    fn range(&self, start: u32, len: u32) -> BorrowedBytes
         ensures at { result.bytes ≡ self.now.texts +ₚ start }
         ensures length { result.length ≡ len }
     {
-        Lent {
+        BorrowedBytes {
             bytes: unsafe { self.texts.byte_add(start as usize) },
             length: len as usize,
         }
@@ -62,14 +62,14 @@ impl Parsed {
 
     /// Lends the bytes of a string or a name, or the literal of a number that is no integer of 64
     /// bits. Returns `None` for any other node.
-    pub fn lend(&self, node: u32) -> Option<Lent>
+    pub fn lend(&self, node: u32) -> Option<BorrowedBytes>
         ensures { MatchOption (node_text self.now.doc.value node) (result ≡ None)
             (λ s. IsSomeAnd result (λ l. LendsText self.now s l.bytes l.length)) }
     {
         if node as usize >= self.doc.cells().len() {
             return None;
         }
-        match cell_at(&self.doc, node) {
+        match node_cell(&self.doc, node) {
             Cell::Str { start, len } => Some(self.range(start, len)),
             Cell::Raw { start, len } => Some(self.range(start, len)),
             _ => None,
@@ -77,8 +77,8 @@ impl Parsed {
     }
 
     /// Lends the name of a member of an object, counted from 0. Returns `None` if there is none.
-    pub fn lend_name(&self, node: u32, index: usize) -> Option<Lent>
-        ensures { MatchOption (member_name (node_tree self.now.doc.value node) index)
+    pub fn lend_name(&self, node: u32, index: usize) -> Option<BorrowedBytes>
+        ensures { MatchOption (member_name (tree_at_node self.now.doc.value node) index)
             (result ≡ None)
             (λ s. IsSomeAnd result (λ l. LendsText self.now s l.bytes l.length)) }
     {

@@ -5,18 +5,23 @@ ghost use Rattle.mezdruk_c.specs.Buffers.{buffer_bytes};
 ghost use Rattle.mezdruk_c.specs.Patching.{PatchesText, PatchCallFails, MergesText, MergeFails};
 ghost use Rattle.mezdruk_c.specs.Faults.{CallFailsFor};
 
-use crate::buffer::Buffer;
+use crate::buffer::ResultBuffer;
 use crate::failure::Failure;
-use crate::fault::{Fault, give};
+use crate::fault::{FaultReport, give};
 use crate::options::Options;
-use crate::values::{read_patch, read_value, write_value};
+use crate::values::{read_patch, value_from_text, value_to_text};
 use json_patch::{apply_merge, apply_patch};
 use json_value::View;
 use std::alloc::Global;
 
 // Returns the text of what a patch makes of a text.
 #[tactic(auto, using(crate::proofs::PatchedTexts::argument_not_patched, crate::proofs::PatchedTexts::text_not_patched, crate::proofs::PatchedTexts::patch_no_memory))]
-fn patched(alloc: Global, text: &[u8], patch: &[u8], options: &Options) -> Result<Buffer, Failure>
+fn patch_texts(
+    alloc: Global,
+    text: &[u8],
+    patch: &[u8],
+    options: &Options,
+) -> Result<ResultBuffer, Failure>
     ensures allowed { OnOk result (AreOptions options.now) }
     ensures done { IfOk result (λ b. PatchesText options.now text.now patch.now (buffer_bytes b)) }
     ensures failed { IfErr result (PatchCallFails options.now text.now patch.now) }
@@ -28,19 +33,24 @@ fn patched(alloc: Global, text: &[u8], patch: &[u8], options: &Options) -> Resul
         Ok(doc) => doc,
         Err(failure) => return Err(failure),
     };
-    let mut value = match read_value(alloc, text, asked.rules) {
+    let mut value = match value_from_text(alloc, text, asked.rules) {
         Ok(value) => value,
         Err(failure) => return Err(failure),
     };
     match apply_patch(alloc, &mut value, View::packed(doc.view())) {
-        Ok(()) => write_value(alloc, &value, asked.style),
+        Ok(()) => value_to_text(alloc, &value, asked.style),
         Err(error) => Err(Failure::Patch(error)),
     }
 }
 
 // Returns the text of what a merge patch makes of a text.
 #[tactic(auto, using(crate::proofs::PatchedTexts::argument_not_merged, crate::proofs::PatchedTexts::text_not_merged, crate::proofs::PatchedTexts::merge_no_memory))]
-fn merged(alloc: Global, text: &[u8], patch: &[u8], options: &Options) -> Result<Buffer, Failure>
+fn merge_texts(
+    alloc: Global,
+    text: &[u8],
+    patch: &[u8],
+    options: &Options,
+) -> Result<ResultBuffer, Failure>
     ensures allowed { OnOk result (AreOptions options.now) }
     ensures done { IfOk result (λ b. MergesText options.now text.now patch.now (buffer_bytes b)) }
     ensures failed { IfErr result (MergeFails options.now text.now patch.now) }
@@ -52,12 +62,12 @@ fn merged(alloc: Global, text: &[u8], patch: &[u8], options: &Options) -> Result
         Ok(doc) => doc,
         Err(failure) => return Err(failure),
     };
-    let mut value = match read_value(alloc, text, asked.rules) {
+    let mut value = match value_from_text(alloc, text, asked.rules) {
         Ok(value) => value,
         Err(failure) => return Err(failure),
     };
     match apply_merge(alloc, &mut value, View::packed(doc.view())) {
-        Ok(()) => write_value(alloc, &value, asked.style),
+        Ok(()) => value_to_text(alloc, &value, asked.style),
         Err(error) => Err(Failure::Patch(error)),
     }
 }
@@ -72,8 +82,8 @@ pub extern "C" fn mezdruk_patch(
     text: &[u8],
     operations: &[u8],
     options: &Options,
-    output: &mut Buffer,
-    fault: &mut Fault,
+    output: &mut ResultBuffer,
+    fault: &mut FaultReport,
 ) -> u8
     ensures allowed { result ≡ 0 → AreOptions options.now }
     ensures done { result ≡ 0
@@ -82,7 +92,7 @@ pub extern "C" fn mezdruk_patch(
         → CallFailsFor (PatchCallFails options.now text.now operations.now) result fault.new }
     ensures kept { result ≢ 0 → output.new ≡ output.old }
 {
-    give(patched(alloc, text, operations, options), output, fault)
+    give(patch_texts(alloc, text, operations, options), output, fault)
 }
 
 /// Merges a patch into a JSON text (RFC 7396): returns the text of what the merge patch makes of
@@ -95,8 +105,8 @@ pub extern "C" fn mezdruk_merge(
     text: &[u8],
     patch: &[u8],
     options: &Options,
-    output: &mut Buffer,
-    fault: &mut Fault,
+    output: &mut ResultBuffer,
+    fault: &mut FaultReport,
 ) -> u8
     ensures allowed { result ≡ 0 → AreOptions options.now }
     ensures done { result ≡ 0
@@ -105,5 +115,5 @@ pub extern "C" fn mezdruk_merge(
         → CallFailsFor (MergeFails options.now text.now patch.now) result fault.new }
     ensures kept { result ≢ 0 → output.new ≡ output.old }
 {
-    give(merged(alloc, text, patch, options), output, fault)
+    give(merge_texts(alloc, text, patch, options), output, fault)
 }

@@ -6,18 +6,18 @@ ghost use Rattle.mezdruk_c.specs.Pointing.{GetsText, GetFails, IsPointed, Pointi
 ghost use Rattle.mezdruk_c.specs.Faults.{CallFailsFor};
 ghost use Rattle.json_value.specs.Denotes.{tree_of};
 
-use crate::buffer::Buffer;
+use crate::buffer::ResultBuffer;
 use crate::failure::Failure;
-use crate::fault::{Fault, give};
+use crate::fault::{FaultReport, give};
 use crate::options::Options;
-use crate::values::{read_value, write_value};
+use crate::values::{value_from_text, value_to_text};
+use json_io::check_utf8;
 use json_patch::{PatchCode, PatchError, Pointer};
-use json_text::check_utf8;
 use json_value::Value;
 use std::alloc::Global;
 
 // Returns the value that the pointer references.
-fn value_at(alloc: Global, value: &Value, pointer: &str) -> Result<Value, Failure>
+fn find_by_pointer(alloc: Global, value: &Value, pointer: &str) -> Result<Value, Failure>
     ensures found { IfOk result (λ v. IsPointed (tree_of value.now) pointer.now (tree_of v)) }
     ensures failed { IfErr result (PointingFails (tree_of value.now) pointer.now) }
 {
@@ -38,7 +38,12 @@ fn value_at(alloc: Global, value: &Value, pointer: &str) -> Result<Value, Failur
 }
 
 // Returns the text of the value that the pointer references in a text.
-fn get(alloc: Global, text: &[u8], pointer: &[u8], options: &Options) -> Result<Buffer, Failure>
+fn get(
+    alloc: Global,
+    text: &[u8],
+    pointer: &[u8],
+    options: &Options,
+) -> Result<ResultBuffer, Failure>
     ensures allowed { OnOk result (AreOptions options.now) }
     ensures done { IfOk result (λ b. GetsText options.now text.now pointer.now (buffer_bytes b)) }
     ensures failed { IfErr result (GetFails options.now text.now pointer.now) }
@@ -50,12 +55,12 @@ fn get(alloc: Global, text: &[u8], pointer: &[u8], options: &Options) -> Result<
         Ok(pointer) => pointer,
         Err(error) => return Err(Failure::Argument(error)),
     };
-    let value = match read_value(alloc, text, asked.rules) {
+    let value = match value_from_text(alloc, text, asked.rules) {
         Ok(value) => value,
         Err(failure) => return Err(failure),
     };
-    match value_at(alloc, &value, pointer) {
-        Ok(part) => write_value(alloc, &part, asked.style),
+    match find_by_pointer(alloc, &value, pointer) {
+        Ok(part) => value_to_text(alloc, &part, asked.style),
         Err(failure) => Err(failure),
     }
 }
@@ -70,8 +75,8 @@ pub extern "C" fn mezdruk_get(
     text: &[u8],
     pointer: &[u8],
     options: &Options,
-    output: &mut Buffer,
-    fault: &mut Fault,
+    output: &mut ResultBuffer,
+    fault: &mut FaultReport,
 ) -> u8
     ensures allowed { result ≡ 0 → AreOptions options.now }
     ensures done { result ≡ 0

@@ -10,17 +10,17 @@ ghost use Rattle.mezdruk_c.specs.Faults.{CallFailsFor};
 ghost use Rattle.mezdruk_c.specs.Payloads.{tree_in};
 ghost use Rattle.mezdruk_c.specs.PrintedNodes.{IsPrintedTree, FailsToPrint, PrintsNode, PrintFails};
 
-use crate::buffer::Buffer;
+use crate::buffer::ResultBuffer;
 use crate::document::Document;
 use crate::failure::Failure;
-use crate::fault::{Fault, give};
+use crate::fault::{FaultReport, give};
 use crate::options::Options;
 use crate::owner::Owner;
 use crate::payload::Payload;
-use crate::values::write_value;
+use crate::values::value_to_text;
 use json_doc::Doc;
-use json_print::Style;
-use json_text::{Error, ErrorCode, Place};
+use json_io::{Error, ErrorCode, Place};
+use json_layout::Style;
 use json_value::Value;
 use std::alloc::Global;
 use std::rc::Rc;
@@ -32,14 +32,19 @@ const NO_NODE: Failure = Failure::Text(Error {
 });
 
 // Returns the text of the value at a place of a document.
-fn print_place(alloc: Global, doc: &Rc<Doc>, at: u32, style: Style<'_>) -> Result<Buffer, Failure>
+fn print_place(
+    alloc: Global,
+    doc: &Rc<Doc>,
+    at: u32,
+    style: Style<'_>,
+) -> Result<ResultBuffer, Failure>
     requires { at < length (doc_cells doc.now.value) }
     ensures done { IfOk result (λ b. buffer_bytes b
         ≡ printed style.entry (doc_tree doc.now.value at)) }
     ensures failed { IfErr result (λ f. f ≡ Failure.Text no_memory) }
 {
     match Value::from_place(alloc, doc, at) {
-        Ok(value) => write_value(alloc, &value, style),
+        Ok(value) => value_to_text(alloc, &value, style),
         Err(error) => Err(Failure::Text(error)),
     }
 }
@@ -50,7 +55,7 @@ fn print_node(
     payload: &Payload,
     node: u32,
     style: Style<'_>,
-) -> Result<Buffer, Failure>
+) -> Result<ResultBuffer, Failure>
     ensures done { IfOk result (λ b. IsPrintedTree style.entry (tree_in payload.now node)
         (buffer_bytes b)) }
     ensures failed { IfErr result (FailsToPrint (tree_in payload.now node)) }
@@ -73,7 +78,7 @@ fn print(
     document: &mut Document,
     node: u32,
     style: Style<'_>,
-) -> Result<Buffer, Failure>
+) -> Result<ResultBuffer, Failure>
     ensures done { IfOk result
         (λ b. IsPrintedTree style.entry (document_node_tree document.old node)
         (buffer_bytes b)) }
@@ -94,7 +99,7 @@ fn print_by(
     document: &mut Document,
     node: u32,
     options: &Options,
-) -> Result<Buffer, Failure>
+) -> Result<ResultBuffer, Failure>
     ensures allowed { OnOk result (AreOptions options.now) }
     ensures done { IfOk result (λ b. PrintsNode options.now (document_node_tree document.old node)
         (buffer_bytes b)) }
@@ -116,8 +121,8 @@ pub extern "C" fn mezdruk_print(
     document: &mut Document,
     node: u32,
     options: &Options,
-    output: &mut Buffer,
-    fault: &mut Fault,
+    output: &mut ResultBuffer,
+    fault: &mut FaultReport,
 ) -> u8
     ensures allowed { result ≡ 0 → AreOptions options.now }
     ensures done { result ≡ 0 → PrintsNode options.now (document_node_tree document.old node)

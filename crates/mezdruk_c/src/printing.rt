@@ -5,10 +5,10 @@ ghost use Rattle.json_io.specs.Errors.{OnlyNoMemory};
 ghost use Rattle.json_value.specs.Denotes.{tree_of};
 ghost use Rattle.mezdruk_c.specs.Buffers.{buffer_bytes};
 
-use crate::buffer::Buffer;
+use crate::buffer::ResultBuffer;
 use json_command::print_value;
-use json_print::Style;
-use json_text::{Result, VecSink};
+use json_io::{Result, VecSink};
+use json_layout::Style;
 use json_value::Value;
 use std::alloc::Global;
 
@@ -25,12 +25,12 @@ fn text_of_value(alloc: Global, value: &Value, style: Style<'_>) -> Result<Vec<u
 }
 
 /// Returns the text of a value in a style. Fails with `NoMemory` if memory runs out.
-pub fn print_text(alloc: Global, value: &Value, style: Style<'_>) -> Result<Buffer>
+pub fn print_styled(alloc: Global, value: &Value, style: Style<'_>) -> Result<ResultBuffer>
     ensures ok { IfOk result (λ b. buffer_bytes b ≡ printed style.entry (tree_of value.now)) }
     ensures only { OnlyNoMemory result }
 {
     match text_of_value(alloc, value, style) {
-        Ok(text) => Buffer::of(alloc, text),
+        Ok(text) => ResultBuffer::of(alloc, text),
         Err(error) => Err(error),
     }
 }

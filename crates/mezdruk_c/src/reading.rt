@@ -2,15 +2,15 @@
 ghost use Rattle.std.specs.Prelude.{◌≡◌, ◌<◌, None, IfSome, MatchOption, IsSomeAnd, length, option_map};
 ghost use Rattle.std.specs.Option.{option_and_then};
 ghost use Rattle.json_doc.specs.Docs.{doc_cells};
-ghost use Rattle.json_doc.specs.Places.{place_behind};
+ghost use Rattle.json_doc.specs.Places.{place_after};
 ghost use Rattle.json_doc.specs.Seen.{view_tree};
 ghost use Rattle.json_value.specs.Doubles.{double_in};
 ghost use Rattle.mezdruk_c.specs.Copying.{CopiesText, CopiesFound};
 ghost use Rattle.mezdruk_c.specs.Nodes.{ShowsTree};
-ghost use Rattle.mezdruk_c.specs.Payloads.{tree_in, element_of, member_of, member_name, IsChildIn, IsAfterIn};
+ghost use Rattle.mezdruk_c.specs.Payloads.{tree_in, element_tree, member_tree, member_name, IsChildIn, IsAfterIn};
 ghost use Rattle.mezdruk_c.specs.Trees.{text_or_literal};
 
-use crate::node::{Node, node_of, text_of};
+use crate::node::{Node, node_of, node_string};
 use crate::payload::Payload;
 use json_doc::{Cell, Doc, DocView};
 use json_value::View;
@@ -45,7 +45,7 @@ pub fn node_in(payload: &Payload, node: u32) -> Option<Node>
 /// Returns the node of an element of an array.
 pub fn element_in(payload: &Payload, node: u32, index: usize) -> Option<u32>
     ensures tree { option_and_then (tree_in payload.now) result
-        ≡ element_of (tree_in payload.now node) index }
+        ≡ element_tree (tree_in payload.now node) index }
     ensures numbered { IfSome result (IsChildIn payload.now node index) }
 {
     match payload {
@@ -66,7 +66,7 @@ pub fn element_in(payload: &Payload, node: u32, index: usize) -> Option<u32>
 /// Returns the node of the value of a member of an object.
 pub fn member_in(payload: &Payload, node: u32, index: usize) -> Option<u32>
     ensures tree { option_and_then (tree_in payload.now) result
-        ≡ member_of (tree_in payload.now node) index }
+        ≡ member_tree (tree_in payload.now node) index }
     ensures numbered { IfSome result (IsChildIn payload.now node index) }
 {
     match payload {
@@ -87,7 +87,7 @@ pub fn member_in(payload: &Payload, node: u32, index: usize) -> Option<u32>
 // Returns the node after the value at a node and all that is below it.
 fn after_node(doc: &Doc, node: u32) -> u32
     requires { node < length (doc_cells doc.now) }
-    ensures { result ≡ place_behind (doc_cells doc.now) node }
+    ensures { result ≡ place_after (doc_cells doc.now) node }
 {
     match doc.cells()[node as usize] {
         Cell::Array { link, .. } => link,
@@ -124,7 +124,7 @@ pub fn real_in(payload: &Payload, node: u32) -> Option<f64>
 }
 
 /// Returns the name of a member of an object.
-pub fn name_in(payload: &Payload, node: u32, index: usize) -> Option<&str>
+pub fn code_name_in(payload: &Payload, node: u32, index: usize) -> Option<&str>
     ensures { option_map (λ s. s.now) result ≡ member_name (tree_in payload.now node) index }
 {
     match view_in(payload, node) {
@@ -134,12 +134,12 @@ pub fn name_in(payload: &Payload, node: u32, index: usize) -> Option<&str>
 }
 
 /// Returns the bytes of a string, or the literal of a number that is no integer of 64 bits.
-pub fn text_in(payload: &Payload, node: u32) -> Option<&str>
+pub fn text_slice(payload: &Payload, node: u32) -> Option<&str>
     ensures { option_map (λ s. s.now) result
         ≡ option_and_then text_or_literal (tree_in payload.now node) }
 {
     match view_in(payload, node) {
-        Some(view) => text_of(view),
+        Some(view) => node_string(view),
         None => None,
     }
 }

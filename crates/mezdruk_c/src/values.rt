@@ -9,12 +9,12 @@ ghost use Rattle.json_value.specs.Denotes.{tree_of};
 ghost use Rattle.mezdruk_c.specs.Buffers.{buffer_bytes};
 ghost use Rattle.mezdruk_c.specs.Checking.{IsArgumentFailure, IsTextFailure};
 
-use crate::buffer::Buffer;
+use crate::buffer::ResultBuffer;
 use crate::failure::Failure;
-use crate::input::read_text;
-use crate::printing::print_text;
+use crate::input::read_input;
+use crate::printing::print_styled;
 use json_doc::Doc;
-use json_print::Style;
+use json_layout::Style;
 use json_text::Rules;
 use json_value::Value;
 use std::alloc::Global;
@@ -27,7 +27,7 @@ pub fn read_patch(alloc: Global, patch: &[u8]) -> Result<Rc<Doc>, Failure>
         (doc_tree d.value (doc_root d.value))) }
     ensures failed { IfErr result (IsArgumentFailure patch.now) }
 {
-    match read_text(alloc, patch, Rules::usual()) {
+    match read_input(alloc, patch, Rules::usual()) {
         Ok(doc) => Ok(doc),
         Err(error) => Err(Failure::Argument(error)),
     }
@@ -35,11 +35,11 @@ pub fn read_patch(alloc: Global, patch: &[u8]) -> Result<Rc<Doc>, Failure>
 
 /// Returns the value of a text. Fails with `Failure::Text` if the bytes are no JSON text, or if
 /// memory runs out.
-pub fn read_value(alloc: Global, text: &[u8], rules: Rules) -> Result<Value, Failure>
+pub fn value_from_text(alloc: Global, text: &[u8], rules: Rules) -> Result<Value, Failure>
     ensures ok { IfOk result (λ v. IsInput (rules_of rules) text.now (tree_of v)) }
     ensures failed { IfErr result (IsTextFailure (rules_of rules) text.now) }
 {
-    match read_text(alloc, text, rules) {
+    match read_input(alloc, text, rules) {
         Ok(doc) => match Value::from_place(alloc, &doc, doc.root()) {
             Ok(value) => Ok(value),
             Err(error) => Err(Failure::Text(error)),
@@ -49,11 +49,15 @@ pub fn read_value(alloc: Global, text: &[u8], rules: Rules) -> Result<Value, Fai
 }
 
 /// Returns the text of a value. Fails with `Failure::Text` of `NoMemory` if memory runs out.
-pub fn write_value(alloc: Global, value: &Value, style: Style<'_>) -> Result<Buffer, Failure>
+pub fn value_to_text(
+    alloc: Global,
+    value: &Value,
+    style: Style<'_>,
+) -> Result<ResultBuffer, Failure>
     ensures ok { IfOk result (λ b. buffer_bytes b ≡ printed style.entry (tree_of value.now)) }
     ensures failed { IfErr result (λ f. f ≡ Failure.Text no_memory) }
 {
-    match print_text(alloc, value, style) {
+    match print_styled(alloc, value, style) {
         Ok(buffer) => Ok(buffer),
         Err(error) => Err(Failure::Text(error)),
     }

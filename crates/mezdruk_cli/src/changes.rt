@@ -4,13 +4,15 @@ use crate::files::{ReadFault, read_bytes, report_unread};
 use crate::missing::Target;
 use crate::run::{Work, run_files};
 use json_arguments::{
-    Arguments, ArgumentsError, InputForm as FormAsked, OperandKind, Problem, Refusal, Settings,
-    Verb, arguments_report, edits_of, file_report, read_operand, split_pointer,
+    Arguments, ArgumentsError, OperandError, OperandKind, Problem, RequestedInput as FormAsked,
+    Settings, Verb, arguments_report, operand_file_report, read_operand, requested_edits,
+    split_pointer,
 };
 use json_command::{Console, Status, report_text};
 use json_data::from_value;
 use json_files::{
-    ApplyMerge, ApplyPatch, Change, EditAll, EditAt, GetPath, GetPointer, InputForm, Job, Unchanged,
+    ApplyMerge, ApplyPatch, EditAll, EditAt, GetPath, GetPointer, InputForm, Job, Unchanged,
+    ValueChange,
 };
 use json_text::{Words, check_utf8};
 use json_value::{Path, Value};
@@ -26,7 +28,7 @@ struct Task<'a> {
 
 impl<'a> Task<'a> {
     // Makes a change of each document, where it leads in them, and returns the status.
-    fn run<C: Change + Copy + Drop>(
+    fn run<C: ValueChange + Copy + Drop>(
         self,
         rt: &HostRuntime,
         console: &mut Console,
@@ -82,12 +84,12 @@ fn report_refusal(
     console: &mut Console,
     words: &Words,
     file: &str,
-    refusal: Refusal,
+    refusal: OperandError,
 ) -> u8 {
     match refusal {
-        Refusal::OutOfMemory => Status::OutOfMemory.number(),
-        Refusal::Invalid(problem) => {
-            let report = file_report(rt.alloc(), words, file, &problem);
+        OperandError::OutOfMemory => Status::OutOfMemory.number(),
+        OperandError::Invalid(problem) => {
+            let report = operand_file_report(rt.alloc(), words, file, &problem);
             report_invalid(console, report)
         }
     }
@@ -125,7 +127,7 @@ fn read_file(
     };
     let read = match check_utf8(&bytes) {
         Ok(text) => read_operand(rt.alloc(), kind, text),
-        Err(error) => Err(Refusal::Invalid(Problem::NoText { kind, error })),
+        Err(error) => Err(OperandError::Invalid(Problem::NoText { kind, error })),
     };
     match read {
         Ok(value) => Ok(value),
@@ -161,7 +163,7 @@ fn edit(rt: &HostRuntime, console: &mut Console, task: Task<'_>, operands: Vec<V
     let Ok((pointer, operands)) = split_pointer(rt.alloc(), operands) else {
         return Status::OutOfMemory.number();
     };
-    let Ok(edits) = edits_of(rt.alloc(), task.verb, operands) else {
+    let Ok(edits) = requested_edits(rt.alloc(), task.verb, operands) else {
         return Status::OutOfMemory.number();
     };
     match (pointer, edits.as_slice()) {

@@ -1,7 +1,7 @@
 // Documents from files and from standard input.
 
 use json_command::{Console, Status, report_text};
-use json_files::{Document, file_report};
+use json_files::{NamedDocument, file_report};
 use json_text::{ErrorCode, Source, StdSource, read_all};
 use std::alloc::Global;
 use std::fs::File;
@@ -100,10 +100,10 @@ pub fn read_document(
     rt: &HostRuntime,
     console: &mut Console,
     file: &str,
-) -> Result<Document, ReadFault> {
+) -> Result<NamedDocument, ReadFault> {
     let bytes = read_bytes(rt, console, file)?;
     match String::from_str(rt.alloc(), shown_name(file)) {
-        Ok(name) => Ok(Document {
+        Ok(name) => Ok(NamedDocument {
             name,
             bytes: Some(bytes),
         }),

@@ -7,7 +7,9 @@ use crate::missing::{Target, hint_of_target};
 use crate::outlet::Outlet;
 use json_arguments::{help_asked, read_arguments};
 use json_command::{Console, Status, report_text, write_text};
-use json_files::{Change, Document, EditedText, InputForm, Job, edit_document, print_documents};
+use json_files::{
+    EditedText, InputForm, Job, NamedDocument, ValueChange, edit_document, print_documents,
+};
 use json_programs::ABOUT_MEZDRUK;
 use json_text::{StdSink, VecSink, Words};
 use mezdruk_programs::run_named;
@@ -92,7 +94,13 @@ pub struct Work<'a, C> {
 
 impl<'a, C> Work<'a, C> {
     // Adds the hint at why the command does not apply to the one document of an input.
-    fn add_hint(&self, rt: &HostRuntime, console: &mut Console, document: &Document, status: u8) {
+    fn add_hint(
+        &self,
+        rt: &HostRuntime,
+        console: &mut Console,
+        document: &NamedDocument,
+        status: u8,
+    ) {
         if status != Status::EditFailed.number() || self.job.input != InputForm::One {
             return;
         }
@@ -106,10 +114,10 @@ impl<'a, C> Work<'a, C> {
 }
 
 // Prints the changed document, and returns the status.
-fn print_document<C: Change>(
+fn print_document<C: ValueChange>(
     rt: &HostRuntime,
     console: &mut Console,
-    document: Document,
+    document: NamedDocument,
     work: &Work<'_, C>,
 ) -> u8 {
     let closed = Cell::new(false);
@@ -126,10 +134,10 @@ fn print_document<C: Change>(
 }
 
 // Returns the text of the changed document, and the status.
-fn edited_text<C: Change + Copy>(
+fn edited_text<C: ValueChange + Copy>(
     rt: &HostRuntime,
     console: &mut Console,
-    document: &Document,
+    document: &NamedDocument,
     work: &Work<'_, C>,
 ) -> EditedText {
     let errs = &mut console.errs;
@@ -144,10 +152,10 @@ fn edited_text<C: Change + Copy>(
 }
 
 // Writes the changed document to its file, if its text is another one, and returns the status.
-fn write_in_place<C: Change + Copy>(
+fn write_in_place<C: ValueChange + Copy>(
     rt: &HostRuntime,
     console: &mut Console,
-    document: Document,
+    document: NamedDocument,
     work: &Work<'_, C>,
 ) -> u8 {
     let EditedText { status, text } = edited_text(rt, console, &document, work);
@@ -169,7 +177,7 @@ fn write_in_place<C: Change + Copy>(
 }
 
 // Does what is asked for with one file, and returns the status.
-fn run_file<C: Change + Copy>(
+fn run_file<C: ValueChange + Copy>(
     rt: &HostRuntime,
     console: &mut Console,
     file: &str,
@@ -189,7 +197,7 @@ fn run_file<C: Change + Copy>(
 
 /// Does what is asked for with each file, or with standard input if there is none, and returns the
 /// greatest status. It ends if standard output fails or memory runs out.
-pub fn run_files<C: Change + Copy>(
+pub fn run_files<C: ValueChange + Copy>(
     rt: &HostRuntime,
     console: &mut Console,
     files: &[&str],

@@ -61,7 +61,7 @@
 //! let read = from_str::<BTreeMap<String, Vec<u8>>>(alloc, text);
 //! let error = read.err().ok_or("no error")?;
 //! assert_eq!(rt; (error.line(), error.column()), (Some(2), Some(2)));
-//! let path = error.refusal().ok_or("no refusal")?;
+//! let path = error.refusal().ok_or("no error_without_place")?;
 //! assert_eq!(rt; format!(in alloc; "{path}")?.as_str(), "/a/1");
 //! ```
 //!
@@ -85,9 +85,9 @@ pub mod tokens;
 pub use json_access::{JsonContainerTrait, JsonValueMutTrait, JsonValueTrait};
 pub use json_containers::{ArrayCalls, Entry, IntoIter, ObjectCalls, OccupiedEntry, VacantEntry};
 pub use json_data::{
-    Deserialize, DeserializeFrom, FromKey, IgnoredAny, Lent, Members, TextTokens, Tokens,
-    ValueTokens, find_members, from_reader, from_slice, from_slice_unchecked, from_slice_with,
-    from_str, from_value, read_members, refusal,
+    Deserialize, DeserializeFrom, FromKey, IgnoredAny, InputStr, Members, TextTokens, Tokens,
+    ValueTokens, error_without_place, from_reader, from_slice, from_slice_unchecked,
+    from_slice_with, from_str, from_value, read_members, try_read_members,
 };
 pub use json_derive as derive;
 pub use json_doc::{Doc, DocView, DocumentRoom, JsonType, read_document, read_document_with};
@@ -110,6 +110,6 @@ pub use json_value::{
     PointerNode, Text, Value, ValueRef, View,
 };
 pub use json_write::{
-    Field, Fields, KeyRoom, Serialize, give_fields, to_string, to_string_pretty, to_value, to_vec,
-    to_vec_pretty, to_writer, to_writer_pretty,
+    Field, Fields, KeyRoom, Serialize, serialize_fields, to_string, to_string_pretty, to_value,
+    to_vec, to_vec_pretty, to_writer, to_writer_pretty,
 };

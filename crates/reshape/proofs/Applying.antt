@@ -7,22 +7,22 @@ use Rattle.json_io.specs.declared.error.ErrorCode.TheVariants.{NoMemory, NotFoun
 use Rattle.json_io.specs.declared.error.Place.{Place}
 use Rattle.json_io.specs.declared.error.Place.TheVariants.{None as nowhere}
 use Rattle.json_grammar.specs.Tree.{Tree}
-use Rattle.json_model.specs.Edit.{Edit, Changed, Refusal, edited_once, edited_from, edited, not_found, type_unmatched}
+use Rattle.json_model.specs.Edit.{Edit, Changed, EditRefusal, edited_once, edited_from, edited, not_found, type_unmatched}
 use Rattle.json_value.specs.Edits.{edit_of, RefusesChange}
 use Rattle.json_value.specs.declared.path.Edit as value
 use Rattle.reshape.specs.Reshape.{EditingRefuses, place_numbered}
 
 -- what the edits from number n on make of a tree, given what the first of them makes of it
-abbrev Behind : ℕ → List Edit → Changed Tree → Result Tree (ℕ × Refusal)
+abbrev Behind : ℕ → List Edit → Changed Tree → Result Tree (ℕ × EditRefusal)
 Behind n es c = elim c [ Ok u ↦ edited_from (suc n) es u | Err r ↦ Err (n, r) ]
 
 abbrev Answer : Type 0
-Answer = Result Tree (ℕ × Refusal)
+Answer = Result Tree (ℕ × EditRefusal)
 
 ok_is : (x y : Tree) → ◌≡◌ {A = Answer} (Ok x) (Ok y) → x ≡ y
 ok_is x y e = cc
 
-err_ok : (x : Tree) (e : ℕ × Refusal) → ◌≡◌ {A = Answer} (Err e) (Ok x) → ⊥
+err_ok : (x : Tree) (e : ℕ × EditRefusal) → ◌≡◌ {A = Answer} (Err e) (Ok x) → ⊥
 err_ok x e h = cc
 
 -- what holds after one edit holds after it and those that follow
@@ -47,7 +47,7 @@ pub edited_more : (es : List Edit) (e : Edit) (t u v : Tree) → edited es t ≡
 edited_more es e t u v h g = edited_then 0 es (e ∷ []) t u h ∙ ap (Behind (0 + length es) []) g
 
 -- one edit more, which does not
-pub edited_stops : (es : List Edit) (e : Edit) (more : List Edit) (t u : Tree) (why : Refusal) (n : ℕ) → edited es t ≡ Ok u → edited_once e u ≡ Err why → n ≡ length es → edited (es ++ e ∷ more) t ≡ Err (n, why)
+pub edited_stops : (es : List Edit) (e : Edit) (more : List Edit) (t u : Tree) (why : EditRefusal) (n : ℕ) → edited es t ≡ Ok u → edited_once e u ≡ Err why → n ≡ length es → edited (es ++ e ∷ more) t ≡ Err (n, why)
 edited_stops es e more t u why n h g l = edited_then 0 es (e ∷ more) t u h ∙ ap (Behind (0 + length es) more) g ∙ ap (λ m. Err (m, why)) (from_zero (length es) ∙ sym l)
   where
     from_zero : (k : ℕ) → 0 + k ≡ k
@@ -72,7 +72,7 @@ counted xs i l = sym (length-map (take i xs) edit_of ∙ length-take-le i xs (om
 pub applied_next : (xs : List value.Edit) (i : ℕ) (x : value.Edit) (t u v : Tree) → i < length xs → x ≡ slice_index_or xs i x → edited (map edit_of (take i xs)) t ≡ Ok u → edited_once (edit_of x) u ≡ Ok v → edited (map edit_of (take (i + 1) xs)) t ≡ Ok v
 applied_next xs i x t u v l e h g = ap (λ es. edited es t) (up_to xs i x l e) ∙ edited_more (map edit_of (take i xs)) (edit_of x) t u v h g
 
-stopped_at : (xs : List value.Edit) (i n : ℕ) (x : value.Edit) (t u : Tree) (why : Refusal) → i < length xs → x ≡ slice_index_or xs i x → edited (map edit_of (take i xs)) t ≡ Ok u → n ≡ i → edited_once (edit_of x) u ≡ Err why → edited (map edit_of xs) t ≡ Err (n, why)
+stopped_at : (xs : List value.Edit) (i n : ℕ) (x : value.Edit) (t u : Tree) (why : EditRefusal) → i < length xs → x ≡ slice_index_or xs i x → edited (map edit_of (take i xs)) t ≡ Ok u → n ≡ i → edited_once (edit_of x) u ≡ Err why → edited (map edit_of xs) t ≡ Err (n, why)
 stopped_at xs i n x t u why l e h same g = ap (λ es. edited es t) (around xs i x l e) ∙ edited_stops (map edit_of (take i xs)) (edit_of x) (map edit_of (drop (i + 1) xs)) t u why n h g (same ∙ counted xs i l)
 
 -- it does not apply, or memory ran out

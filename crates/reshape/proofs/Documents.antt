@@ -22,7 +22,7 @@ use Rattle.json_value.specs.declared.value.Value.{Value}
 use Rattle.json_value.specs.Denotes.{tree_of}
 use Rattle.json_command.specs.Reading.{ReadsInput}
 use Rattle.json_command.specs.Printing.{HasRunOut, PrintingFails, Prints, RunsOutOnlyWith}
-use Rattle.reshape.specs.Reshape.{Layout, laid_out, ordered, Reshapes, ReshapingRefuses}
+use Rattle.reshape.specs.Reshape.{TextLayout, laid_out, ordered, Reshapes, ReshapingRefuses}
 
 module _ (rules : Rules) where
   -- the edits of the value at the root are those of the document's tree
@@ -30,7 +30,7 @@ module _ (rules : Rules) where
   applied_to es d d' v w at t p s h = ap (edited es) (sym (t ∙ ap (doc_tree d) (p ∙ ap doc_root s))) ∙ h
 
   -- what is sorted is proper too
-  ordered_proper : (l : Layout) (tree : Tree) → IsProper tree → IsProper (ordered l tree)
+  ordered_proper : (l : TextLayout) (tree : Tree) → IsProper tree → IsProper (ordered l tree)
   ordered_proper l tree h = by l.sorts
     where
       by : (s : Bool) → IsProper (cond s (sorted tree) tree)
@@ -38,7 +38,7 @@ module _ (rules : Rules) where
       by false = h
 
   -- the text was read, the edits applied, and the text of the edited tree was gained and flushed
-  pub reshaped : (es : List Edit) (l : Layout) (source source' : SourceState) (sink sink' : SinkState) (tree changed : Tree) (r : Result (Unit {0}) Error) → ReadsInput rules source source' tree → IsIndent l.indent → IsProper changed → edited es tree ≡ Ok changed
+  pub reshaped : (es : List Edit) (l : TextLayout) (source source' : SourceState) (sink sink' : SinkState) (tree changed : Tree) (r : Result (Unit {0}) Error) → ReadsInput rules source source' tree → IsIndent l.indent → IsProper changed → edited es tree ≡ Ok changed
       → OnOk r (Appends sink.gained sink'.gained (laid_out l changed)) → OnOk r (sink'.unflushed ≡ false) → OnOk r (Reshapes rules es l source source' sink sink')
   reshaped es l source source' sink sink' tree changed (Ok u) reads indent proper applied gains flushed =
       record {
@@ -59,7 +59,7 @@ module _ (rules : Rules) where
   unless_sorted false A B h = elim (h refl) [ inl a ↦ inl a | inr b ↦ inr (λ e. b) ]
 
   -- the text was not written whole
-  printing_refused : (es : List Edit) (l : Layout) (source source' : SourceState) (sink sink' : SinkState) (tree changed : Tree) (code : ErrorCode) (place : Place) → ReadsInput rules source source' tree → edited es tree ≡ Ok changed
+  printing_refused : (es : List Edit) (l : TextLayout) (source source' : SourceState) (sink sink' : SinkState) (tree changed : Tree) (code : ErrorCode) (place : Place) → ReadsInput rules source source' tree → edited es tree ≡ Ok changed
       → (l.sorts ≡ false → RunsOutOnlyWith {A = Unit {0}} sink sink' (length (laid_out l changed)) (Err (record { code = code; place = place })))
       → PrintingFails sink sink' (laid_out l changed) code place → ReshapingRefuses rules es l source source' sink sink' code place
   printing_refused es l source source' sink sink' tree changed NoMemory nowhere r a k (inl same) = inl same
@@ -71,7 +71,7 @@ module _ (rules : Rules) where
   printing_refused es l source source' sink sink' tree changed Io Writing r a k h = (h.0, record { tree = tree; reads = r; changed = changed; applied = a; gains = h.1 })
   printing_refused es l source source' sink sink' tree changed code place r a k h = absurd h
 
-  pub print_refused : (es : List Edit) (l : Layout) (source source' : SourceState) (sink sink' : SinkState) (tree changed : Tree) (r : Result (Unit {0}) Error) → ReadsInput rules source source' tree → edited es tree ≡ Ok changed → Prints sink sink' (laid_out l changed) r
+  pub print_refused : (es : List Edit) (l : TextLayout) (source source' : SourceState) (sink sink' : SinkState) (tree changed : Tree) (r : Result (Unit {0}) Error) → ReadsInput rules source source' tree → edited es tree ≡ Ok changed → Prints sink sink' (laid_out l changed) r
       → (l.sorts ≡ false → RunsOutOnlyWith sink sink' (length (laid_out l changed)) r) → IfErr r (λ e. ReshapingRefuses rules es l source source' sink sink' e.code e.place)
   print_refused es l source source' sink sink' tree changed (Ok u) read a p k = tt
   print_refused es l source source' sink sink' tree changed (Err e) read a p k = printing_refused es l source source' sink sink' tree changed e.code e.place read a k p.err

@@ -7,7 +7,7 @@ use Rattle.std.proofs.lemmas.Option.{slice_get_within, get_or_from_slice_get}
 use Rattle.json_grammar.specs.Grammar.{ws}
 use Rattle.json_model.specs.Print.{IsIndent}
 use Rattle.reshape.specs.Words.{AsksEdits}
-use Rattle.reshape.specs.Options.{spaces, is_option, is_edits_word, indent_in, is_sorting, is_unique, is_known, IsReshaping}
+use Rattle.reshape.specs.Options.{spaces, begins_with_two_hyphens, is_edits_word, indent_in, is_sorting, is_unique, is_known, IsReshaping}
 use Rattle.reshape.specs.Gathering.{IsRole, HasRole, HoldsWords}
 use Rattle.reshape.proofs.Numerals.{depth_few}
 use Rattle.reshape.specs.declared.options.Role.{Role}
@@ -97,7 +97,7 @@ module _ (ws : List (List ℕ)) (w : List ℕ) where
         sorting = ap length (filter_skips is_sorting ws w r.sorting) ∙ h.sorting;
         differing = ap length (filter_skips is_unique ws w r.differing) ∙ h.differing;
         depth_is = picks_skip depth_in ws w r.depth_is ∙ h.depth_is;
-        edits = filter_skips is_edits_word ws w (not_true (is_option w) r.option) ∙ h.edits;
+        edits = filter_skips is_edits_word ws w (not_true (begins_with_two_hyphens w) r.option) ∙ h.edits;
       }
 
   more_sorting : (i : Word) (u : Bool) (d : Option ℕ) (e : Word) → IsRole w true None true false None → HoldsWords ws i false u d e → HoldsWords (ws ++ w ∷ []) i true u d e
@@ -108,7 +108,7 @@ module _ (ws : List (List ℕ)) (w : List ℕ) where
         sorting = one_more (filter is_sorting ws) w _ (filter_takes is_sorting ws w [] r.sorting) h.sorting;
         differing = ap length (filter_skips is_unique ws w r.differing) ∙ h.differing;
         depth_is = picks_skip depth_in ws w r.depth_is ∙ h.depth_is;
-        edits = filter_skips is_edits_word ws w (not_true (is_option w) r.option) ∙ h.edits;
+        edits = filter_skips is_edits_word ws w (not_true (begins_with_two_hyphens w) r.option) ∙ h.edits;
       }
 
   more_unique : (i : Word) (s : Bool) (d : Option ℕ) (e : Word) → IsRole w true None false true None → HoldsWords ws i s false d e → HoldsWords (ws ++ w ∷ []) i s true d e
@@ -119,7 +119,7 @@ module _ (ws : List (List ℕ)) (w : List ℕ) where
         sorting = ap length (filter_skips is_sorting ws w r.sorting) ∙ h.sorting;
         differing = one_more (filter is_unique ws) w _ (filter_takes is_unique ws w [] r.differing) h.differing;
         depth_is = picks_skip depth_in ws w r.depth_is ∙ h.depth_is;
-        edits = filter_skips is_edits_word ws w (not_true (is_option w) r.option) ∙ h.edits;
+        edits = filter_skips is_edits_word ws w (not_true (begins_with_two_hyphens w) r.option) ∙ h.edits;
       }
 
   more_depth : (i : Word) (s u : Bool) (n : ℕ) (e : Word) → IsRole w true None false false (Some n) → HoldsWords ws i s u None e → HoldsWords (ws ++ w ∷ []) i s u (Some n) e
@@ -130,18 +130,18 @@ module _ (ws : List (List ℕ)) (w : List ℕ) where
         sorting = ap length (filter_skips is_sorting ws w r.sorting) ∙ h.sorting;
         differing = ap length (filter_skips is_unique ws w r.differing) ∙ h.differing;
         depth_is = picks_take depth_in ws w n [] r.depth_is ∙ ap (λ l. l ++ n ∷ []) h.depth_is;
-        edits = filter_skips is_edits_word ws w (not_true (is_option w) r.option) ∙ h.edits;
+        edits = filter_skips is_edits_word ws w (not_true (begins_with_two_hyphens w) r.option) ∙ h.edits;
       }
 
   more_edits : (i : Word) (s u : Bool) (d : Option ℕ) → IsRole w false None false false None → HoldsWords ws i s u d None → HoldsWords (ws ++ w ∷ []) i s u d (Some w)
   more_edits i s u d r h =
       record {
-        known = all_last is_known ws w h.known (known_edits (is_option w) (is_some (indent_in w)) (is_sorting w) (is_unique w) (is_some (depth_in w)) r.option);
+        known = all_last is_known ws w h.known (known_edits (begins_with_two_hyphens w) (is_some (indent_in w)) (is_sorting w) (is_unique w) (is_some (depth_in w)) r.option);
         indent_is = picks_skip indent_in ws w r.indent_is ∙ h.indent_is;
         sorting = ap length (filter_skips is_sorting ws w r.sorting) ∙ h.sorting;
         differing = ap length (filter_skips is_unique ws w r.differing) ∙ h.differing;
         depth_is = picks_skip depth_in ws w r.depth_is ∙ h.depth_is;
-        edits = filter_takes is_edits_word ws w [] (not_false (is_option w) r.option) ∙ ap (λ l. l ++ w ∷ []) h.edits;
+        edits = filter_takes is_edits_word ws w [] (not_false (begins_with_two_hyphens w) r.option) ∙ ap (λ l. l ++ w ∷ []) h.edits;
       }
 
 -- ---- a word that is refused
@@ -172,7 +172,7 @@ module _ (ws : List (List ℕ)) (w : List ℕ) (more : List (List ℕ)) where
 
   edits_again : (v : List ℕ) (i : Word) (s u : Bool) (d : Option ℕ) → IsRole w false None false false None → HoldsWords ws i s u d (Some v) → ¬ (IsReshaping (ws ++ w ∷ more))
   edits_again v i s u d r h (c, a) =
-      subst (λ l. AsksEdits l c.es) (filter_takes is_edits_word ws w more (not_false (is_option w) r.option) ∙ ap (λ l. l ++ w ∷ filter is_edits_word more) h.edits) a.edits
+      subst (λ l. AsksEdits l c.es) (filter_takes is_edits_word ws w more (not_false (begins_with_two_hyphens w) r.option) ∙ ap (λ l. l ++ w ∷ filter is_edits_word more) h.edits) a.edits
 
 -- ---- as the code tests it
 
@@ -240,11 +240,11 @@ module _ (ws : List (List ℕ)) (w : List ℕ) (r : Role) (o e : Option (Bor (Li
 
 -- ---- all words
 
-behind_word : (words : List (List ℕ)) (i : ℕ) (w : List ℕ) → slice_get words i ≡ Some w → drop i words ≡ w ∷ drop (i + 1) words
-behind_word words i w e = drop_more words i w (slice_get_within words i w e) ∙ ap (λ v. v ∷ drop (i + 1) words) (get_or_from_slice_get words i w w e)
+after_word : (words : List (List ℕ)) (i : ℕ) (w : List ℕ) → slice_get words i ≡ Some w → drop i words ≡ w ∷ drop (i + 1) words
+after_word words i w e = drop_more words i w (slice_get_within words i w e) ∙ ap (λ v. v ∷ drop (i + 1) words) (get_or_from_slice_get words i w w e)
 
 split_word : (words : List (List ℕ)) (i : ℕ) (w : List ℕ) → slice_get words i ≡ Some w → take i words ++ w ∷ drop (i + 1) words ≡ words
-split_word words i w e = ap (λ l. take i words ++ l) (sym (behind_word words i w e)) ∙ take-append-drop i words
+split_word words i w e = ap (λ l. take i words ++ l) (sym (after_word words i w e)) ∙ take-append-drop i words
 
 pub word_taken : (words : List (List ℕ)) (i : ℕ) (w : List ℕ) → slice_get words i ≡ Some w → take i words ++ w ∷ [] ≡ take (i + 1) words
 word_taken words i w e = ap (λ v. take i words ++ v ∷ []) (sym (get_or_from_slice_get words i w w e)) ∙ sym (take_more words i w (slice_get_within words i w e))

@@ -89,8 +89,8 @@ two_numbers = (
   ),
 )
 
-abbrev behind_number : List ℕ
-behind_number = codes ", \"k\": [-0, 1.50], \"a\": \"\\u0041\""
+abbrev after_number : List ℕ
+after_number = codes ", \"k\": [-0, 1.50], \"a\": \"\\u0041\""
 
 last_member : more_members false (pair_and (codes "a") (text (codes "A")) no_pairs) (codes ", \"a\": \"\\u0041\"")
 last_member = (
@@ -119,7 +119,7 @@ last_member = (
   ),
 )
 
-more_of_record : more_members false (pair_and (codes "k") (list (tree_and (num (codes "-0")) (tree_and (num (codes "1.50")) no_trees))) (pair_and (codes "a") (text (codes "A")) no_pairs)) behind_number
+more_of_record : more_members false (pair_and (codes "k") (list (tree_and (num (codes "-0")) (tree_and (num (codes "1.50")) no_trees))) (pair_and (codes "a") (text (codes "A")) no_pairs)) after_number
 more_of_record = (
   codes ",",
   _,
@@ -153,9 +153,9 @@ record_value i h = (
   refl,
   refl,
   (
-    codes "\"n\": " ++ (decimal i ++ behind_number),
+    codes "\"n\": " ++ (decimal i ++ after_number),
     codes "}",
-    ap (λ l. codes "\"n\": " ++ l) (sym (append_assoc (decimal i) behind_number (codes "}"))),
+    ap (λ l. codes "\"n\": " ++ l) (sym (append_assoc (decimal i) after_number (codes "}"))),
     (
       [],
       _,
@@ -181,7 +181,7 @@ record_value i h = (
               _,
               refl,
               (inl refl, tt),
-              (decimal i, behind_number, refl, (decimal_number i h, refl), ([], _, refl, tt, more_of_record)),
+              (decimal i, after_number, refl, (decimal_number i h, refl), ([], _, refl, tt, more_of_record)),
             ),
           ),
         ),

@@ -1,6 +1,6 @@
 -- What the words and the known bytes lead to.
 use Rattle.std.proofs.Common.{◌≡◌, ◌⊎◌, inl, inr, ℕ, ◌≤◌, List, [], ◌∷◌, Result, Ok, Err, OnOk, IfErr, refl, sym, subst, ap, ◌∙◌}
-use Rattle.json_model.specs.Edit.{Edit, Refusal, not_found, type_unmatched}
+use Rattle.json_model.specs.Edit.{Edit, EditRefusal, not_found, type_unmatched}
 use Rattle.json_grammar.specs.Rules.{Rules}
 use Rattle.json_io.specs.declared.error.Error.{Error}
 use Rattle.json_io.specs.declared.error.ErrorCode.{ErrorCode}
@@ -18,10 +18,10 @@ use Rattle.reshape.specs.declared.edits.Edits.{Edits}
 use Rattle.reshape.specs.declared.asked_style.AskedStyle.{AskedStyle}
 use Rattle.reshape.specs.declared.command.Asked.{Asked}
 use Rattle.reshape.specs.declared.command.Asked.TheVariants.{Reshape, Made}
-use Rattle.reshape.specs.Reshape.{Layout, RunsOut, Reshapes, ReshapingRefuses}
+use Rattle.reshape.specs.Reshape.{TextLayout, RunsOut, Reshapes, ReshapingRefuses}
 use Rattle.json_command.specs.Statuses.{status_of}
 use Rattle.json_command.specs.Reporting.{Reports}
-use Rattle.reshape.specs.Run.{WithCommand, RunRefuses, Did, Fails, IsGood, IsBad, IsUnfit}
+use Rattle.reshape.specs.Run.{WithCommand, RunRefuses, WritesRequested, Fails, IsGood, IsBad, IsUnfit}
 use Rattle.reshape.specs.Known.{edit_refused}
 use Rattle.json_command.proofs.Inputs.{no_want, no_io, no_words, no_not_found, no_type_unmatched}
 use Rattle.json_command.specs.Printing.{PrintingFails}
@@ -84,27 +84,27 @@ bad_status words source source' sink sink' errs errs' code code' place place' ca
     (fault_refused c.rules c.es c.layout source source' sink sink' code code' place place' (cause_of words c source source' sink sink' code' place' bad.asked cause) bad.so)
 
 -- what was done for the command that the words ask for
-done_for : (words : List (List ℕ)) (c : Command) (source source' : SourceState) (sink sink' : SinkState) → Asks words c → Did words source source' sink sink' → Reshapes c.rules c.es c.layout source source' sink sink'
+done_for : (words : List (List ℕ)) (c : Command) (source source' : SourceState) (sink sink' : SinkState) → Asks words c → WritesRequested words source source' sink sink' → Reshapes c.rules c.es c.layout source source' sink sink'
 done_for words c source source' sink sink' asked (inl h) = so_of words c (λ c. Reshapes c.rules c.es c.layout source source' sink sink') asked h
 done_for words c source source' sink sink' asked (inr m) = absurd (apart words m.number c m.asked asked)
 
-pub bad_done : (words : List (List ℕ)) (source source' : SourceState) (sink sink' : SinkState) (code : ErrorCode) (place : Place) → Did words source source' sink sink' → IsBad words source source' code place → ⊥
+pub bad_done : (words : List (List ℕ)) (source source' : SourceState) (sink sink' : SinkState) (code : ErrorCode) (place : Place) → WritesRequested words source source' sink sink' → IsBad words source source' code place → ⊥
 bad_done words source source' sink sink' code place did bad =
     let d = bad.command in fault_not_done d.rules d.es d.layout source source' sink sink' code place (done_for words d source source' sink sink' bad.asked did) bad.so
 
-unfit_number : (n : ℕ) (why : Refusal) → let e = edit_refused n why in status_of e.code e.place ≡ 3
+unfit_number : (n : ℕ) (why : EditRefusal) → let e = edit_refused n why in status_of e.code e.place ≡ 3
 unfit_number n not_found = refl
 unfit_number n type_unmatched = refl
 
 -- an edit that does not apply is refused by its number, where no read fails and memory suffices
-pub unfit_status : (words : List (List ℕ)) (source source' : SourceState) (sink sink' errs errs' : SinkState) (n : ℕ) (why : Refusal) (code : ErrorCode) (place : Place) → Fails words source source' sink sink' code place
+pub unfit_status : (words : List (List ℕ)) (source source' : SourceState) (sink sink' errs errs' : SinkState) (n : ℕ) (why : EditRefusal) (code : ErrorCode) (place : Place) → Fails words source source' sink sink' code place
     → Reports (text_of (error code place)) errs errs' → IsUnfit words source source' n why → Exact 3 (edit_refused n why) errs errs' (status_of code place)
 unfit_status words source source' sink sink' errs errs' n why code place cause tells unfit =
     let c = unfit.command in
     exact_of 3 (edit_refused n why) (error code place) errs errs' (unfit_number n why) tells
     (unfit_refused c.rules c.es c.layout source source' sink sink' n why code place (cause_of words c source source' sink sink' code place unfit.asked cause) unfit.so)
 
-pub unfit_done : (words : List (List ℕ)) (source source' : SourceState) (sink sink' : SinkState) (n : ℕ) (why : Refusal) → Did words source source' sink sink' → IsUnfit words source source' n why → ⊥
+pub unfit_done : (words : List (List ℕ)) (source source' : SourceState) (sink sink' : SinkState) (n : ℕ) (why : EditRefusal) → WritesRequested words source source' sink sink' → IsUnfit words source source' n why → ⊥
 unfit_done words source source' sink sink' n why did unfit =
     let d = unfit.command in unfit_not_done d.rules d.es d.layout source source' sink sink' n why (done_for words d source source' sink sink' unfit.asked did) unfit.so
 
@@ -147,7 +147,7 @@ run_refuses words c source source' sink sink' BadWords nowhere asked h = absurd 
 run_refuses words c source source' sink sink' code place asked h = record { command = c; asked = asked; so = h }
 
 -- so of a result, where these are the rules, the edits and the layout of that command
-pub run_refused : (r : Result (Unit {0}) Error) (words : List (List ℕ)) (c : Command) (rules : Rules) (es : List Edit) (l : Layout) (source source' : SourceState) (sink sink' : SinkState) → Asks words c → rules ≡ c.rules → es ≡ c.es → l ≡ c.layout
+pub run_refused : (r : Result (Unit {0}) Error) (words : List (List ℕ)) (c : Command) (rules : Rules) (es : List Edit) (l : TextLayout) (source source' : SourceState) (sink sink' : SinkState) → Asks words c → rules ≡ c.rules → es ≡ c.es → l ≡ c.layout
     → IfErr r (λ e. ReshapingRefuses rules es l source source' sink sink' e.code e.place) → IfErr r (λ e. Fails words source source' sink sink' e.code e.place)
 run_refused (Ok x) words c rules es l source source' sink sink' asked u f g h = tt
 run_refused (Err e) words c rules es l source source' sink sink' asked u f g h =
@@ -158,8 +158,8 @@ run_refused (Err e) words c rules es l source source' sink sink' asked u f g h =
 -- ---- what is done for the words
 
 -- the engine did it for these rules, these edits and this layout
-pub run_did : (r : Result (Unit {0}) Error) (words : List (List ℕ)) (c : Command) (rules : Rules) (es : List Edit) (l : Layout) (source source' : SourceState) (sink sink' : SinkState) → Asks words c → rules ≡ c.rules → es ≡ c.es → l ≡ c.layout
-    → OnOk r (Reshapes rules es l source source' sink sink') → OnOk r (Did words source source' sink sink')
+pub run_did : (r : Result (Unit {0}) Error) (words : List (List ℕ)) (c : Command) (rules : Rules) (es : List Edit) (l : TextLayout) (source source' : SourceState) (sink sink' : SinkState) → Asks words c → rules ≡ c.rules → es ≡ c.es → l ≡ c.layout
+    → OnOk r (Reshapes rules es l source source' sink sink') → OnOk r (WritesRequested words source source' sink sink')
 run_did (Err e) words c rules es l source source' sink sink' asked u f g h = tt
 run_did (Ok x) words c rules es l source source' sink sink' asked u f g h =
     inl (record { command = c; asked = asked; so = subst (λ rules. Reshapes rules c.es c.layout source source' sink sink') u (subst (λ es. Reshapes rules es c.layout source source' sink sink') f (subst (λ l. Reshapes rules es l source source' sink sink') g h)) })
@@ -178,7 +178,7 @@ few_made (w ∷ []) n h = made_few w n h
 few_made (w ∷ v ∷ ws) n h = absurd h
 
 -- its summary was written, and nothing was read
-pub made_did : (r : Result (Unit {0}) Error) (words : List (List ℕ)) (n : ℕ) (source : SourceState) (sink sink' : SinkState) → AsksMade words n → OnOk r (GainsSummary n sink sink') → OnOk r (Did words source source sink sink')
+pub made_did : (r : Result (Unit {0}) Error) (words : List (List ℕ)) (n : ℕ) (source : SourceState) (sink sink' : SinkState) → AsksMade words n → OnOk r (GainsSummary n sink sink') → OnOk r (WritesRequested words source source sink sink')
 made_did (Err e) words n source sink sink' asked h = tt
 made_did (Ok x) words n source sink sink' asked h = inr (record { number = n; asked = asked; so = (refl, h) })
 
@@ -193,6 +193,6 @@ words_fail (Err e) words source sink (inl lacks) = subst (λ e. Fails words sour
 words_fail (Err e) words source sink (inr bad) = subst (λ e. Fails words source source sink sink e.code e.place) (sym bad.0) (inl (bad.1, refl, refl))
 
 -- what was done was asked for
-pub did_asked : (words : List (List ℕ)) (source source' : SourceState) (sink sink' : SinkState) → Did words source source' sink sink' → ¬ (IsAsked words) → ⊥
+pub did_asked : (words : List (List ℕ)) (source source' : SourceState) (sink sink' : SinkState) → WritesRequested words source source' sink sink' → ¬ (IsAsked words) → ⊥
 did_asked words source source' sink sink' (inl h) not = not (inl (h.command, h.asked))
 did_asked words source source' sink sink' (inr m) not = not (inr (m.number, m.asked))

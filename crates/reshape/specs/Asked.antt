@@ -4,7 +4,7 @@ use Rattle.json_grammar.specs.Rules.{Rules}
 use Rattle.json_text.specs.Ruled.{rules_of, usual_rules}
 use Rattle.json_model.specs.Edit as model
 use Rattle.json_value.specs.Edits.{edit_of}
-use Rattle.reshape.specs.Reshape.{Layout, layout_of}
+use Rattle.reshape.specs.Reshape.{TextLayout, layout_of}
 use Rattle.reshape.specs.Options.{Command, Asks, AsksMade}
 use Rattle.reshape.specs.Made.{sorted_compact}
 use Rattle.reshape.specs.declared.edits.Edits.{Edits}
@@ -17,7 +17,7 @@ abbrev pub edits_of : Edits → List model.Edit
 edits_of e = map edit_of e.list.items
 
 -- the layout that is asked for
-abbrev pub layout_asked : AskedStyle → Layout
+abbrev pub layout_asked : AskedStyle → TextLayout
 layout_asked a = layout_of a.style
 
 -- the rules that are asked for

@@ -1,15 +1,15 @@
 -- What is gathered from the words of the command line before the edits word is read.
 use Rattle.std.specs.Prelude.{◌≡◌, ℕ, Bool, true, false, cond, List, length, filter, filter_map, Option, Some, None, option_map, option_to_list}
 use Rattle.std.specs.List.{list_all}
-use Rattle.reshape.specs.Options.{is_option, is_edits_word, indent_in, is_sorting, is_unique, is_known}
+use Rattle.reshape.specs.Options.{begins_with_two_hyphens, is_edits_word, indent_in, is_sorting, is_unique, is_known}
 use Rattle.reshape.specs.declared.options.Role.{Role}
 use Rattle.reshape.specs.declared.options.Role.TheVariants.{Indent, SortKeys, UniqueKeys, Depth, EditsWord}
-use Rattle.reshape.specs.declared.options.Options.{Options}
+use Rattle.reshape.specs.declared.options.ParsedOptions.{ParsedOptions}
 use Rattle.json_command.specs.Options.{depth_in}
 
 -- what one word asks for
 pub record IsRole (w : List ℕ) (opt : Bool) (indent : Option (List ℕ)) (sorts unique : Bool) (depth : Option ℕ) : Type 0 where
-  pub option : is_option w ≡ opt
+  pub option : begins_with_two_hyphens w ≡ opt
   pub indent_is : indent_in w ≡ indent
   pub sorting : is_sorting w ≡ sorts
   pub differing : is_unique w ≡ unique
@@ -33,5 +33,5 @@ pub record HoldsWords (words : List (List ℕ)) (indent : Option (List ℕ)) (so
   pub depth_is : filter_map depth_in words ≡ option_to_list depth
   pub edits : filter is_edits_word words ≡ option_to_list word
 
-abbrev pub Gathered : List (List ℕ) → Options → Type 0
+abbrev pub Gathered : List (List ℕ) → ParsedOptions → Type 0
 Gathered words o = HoldsWords words (option_map (λ s. s.now) o.indent) o.sorted o.unique o.depth (option_map (λ s. s.now) o.edits)

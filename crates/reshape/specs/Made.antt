@@ -9,7 +9,7 @@ use Rattle.json_io.specs.Outside.{SinkState, Rose}
 use Rattle.json_io.specs.declared.error.Error.{Error}
 use Rattle.json_io.specs.declared.error.ErrorCode.{ErrorCode}
 use Rattle.json_io.specs.declared.error.Place.{Place}
-use Rattle.reshape.specs.Reshape.{Layout, laid_out}
+use Rattle.reshape.specs.Reshape.{TextLayout, laid_out}
 use Rattle.json_command.specs.Printing.{PrintingFails}
 
 -- the record of a number I: {"n": I, "k": [-0, 1.50], "a": "\u0041"}
@@ -38,7 +38,7 @@ abbrev pub summary : List ℕ → List ℕ → List ℕ
 summary input output = totals (codes "in ") input ++ totals (codes "out ") output
 
 -- no whitespace between the tokens, and members in the order of their keys
-abbrev pub sorted_compact : Layout
+abbrev pub sorted_compact : TextLayout
 sorted_compact = record { indent = None; sorts = true }
 
 -- the input is a text of a tree, and this is the sorted compact text of that tree
@@ -50,7 +50,7 @@ pub record IsPrinted (input output : List ℕ) : Type 0 where
 -- this is the summary of made input of n records, and of what is printed of it
 pub record IsSummary (n : ℕ) (text : List ℕ) : Type 0 where
   pub output : List ℕ
-  pub printed : IsPrinted (made n) output
+  pub print_made : IsPrinted (made n) output
   pub sums : text ≡ summary (made n) output
 
 -- the sink gained exactly the summary, and was flushed

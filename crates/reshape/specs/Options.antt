@@ -6,15 +6,15 @@ use Rattle.json_command.specs.Options.{number_after, depth_in, width_in}
 use Rattle.json_text.specs.Ruled.{usual_rules}
 use Rattle.json_model.specs.Edit.{Edit}
 use Rattle.reshape.specs.Words.{AsksEdits}
-use Rattle.reshape.specs.Reshape.{Layout}
+use Rattle.reshape.specs.Reshape.{TextLayout}
 
 -- a word whose first two bytes are hyphens is an option
-abbrev pub is_option : List ℕ → Bool
-is_option w = bytes_eq (take 2 w) (codes "--")
+abbrev pub begins_with_two_hyphens : List ℕ → Bool
+begins_with_two_hyphens w = bytes_eq (take 2 w) (codes "--")
 
 -- any other word is an edits word
 abbrev pub is_edits_word : List ℕ → Bool
-is_edits_word w = not (is_option w)
+is_edits_word w = not (begins_with_two_hyphens w)
 
 -- n spaces
 abbrev pub spaces : ℕ → List ℕ
@@ -50,7 +50,7 @@ depth_or_usual o = unwrap_or o usual_rules.limit
 -- what is asked for: the edits, the layout of the text, and the rules that the input is read by
 pub record Command : Type 0 where
   pub es : List Edit
-  pub layout : Layout
+  pub layout : TextLayout
   pub rules : Rules
 
 -- the words ask for this command: each is known, at most one asks for an indent, one for sorted members, one for names that differ and one for a number of levels, and the words that are no options ask for the edits

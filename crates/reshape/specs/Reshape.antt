@@ -4,7 +4,7 @@ use Rattle.json_grammar.specs.Tree.{Tree}
 use Rattle.json_grammar.specs.Grammar.{is_text}
 use Rattle.json_grammar.specs.Rules.{Rules}
 use Rattle.json_model.specs.Sort.{sorted}
-use Rattle.json_model.specs.Edit.{Edit, edited, Refusal, not_found, type_unmatched}
+use Rattle.json_model.specs.Edit.{Edit, edited, EditRefusal, not_found, type_unmatched}
 use Rattle.json_io.specs.Known.{Appends}
 use Rattle.json_layout.specs.Shown.{shown_as}
 use Rattle.json_layout.specs.Styles.{indent_of, is_sorted}
@@ -20,24 +20,24 @@ use Rattle.json_command.specs.Printing.{HasRunOut}
 use Rattle.json_command.specs.Reading.{ReadsInput, ReadsFault}
 
 -- how a text is laid out: the indent, or none for no whitespace between the tokens, and whether the members of each object are sorted by their keys
-pub record Layout : Type 0 where
+pub record TextLayout : Type 0 where
   pub indent : Option (List ℕ)
   pub sorts : Bool
 
 -- the layout that a style asks for
-abbrev pub layout_of : Style → Layout
+abbrev pub layout_of : Style → TextLayout
 layout_of s = record { indent = indent_of s; sorts = is_sorted s }
 
 -- the text of a tree in a layout
-abbrev pub laid_out : Layout → Tree → List ℕ
+abbrev pub laid_out : TextLayout → Tree → List ℕ
 laid_out l tree = shown_as l.indent l.sorts tree
 
 -- the tree whose text it is: sorted at every object where that is asked
-abbrev pub ordered : Layout → Tree → Tree
+abbrev pub ordered : TextLayout → Tree → Tree
 ordered l tree = cond l.sorts (sorted tree) tree
 
 -- a text of exactly one tree was read, every edit applied in turn, and the sink gained exactly the text of the edited tree in the layout, which is a text of it, sorted where asked, and was flushed
-pub record Reshapes (rules : Rules) (es : List Edit) (l : Layout) (source source' : SourceState) (sink sink' : SinkState) : Type 0 where
+pub record Reshapes (rules : Rules) (es : List Edit) (l : TextLayout) (source source' : SourceState) (sink sink' : SinkState) : Type 0 where
   pub tree : Tree
   pub reads : ReadsInput rules source source' tree
   pub only : (other : Tree) → is_text false other reads.bytes → other ≡ tree
@@ -48,13 +48,13 @@ pub record Reshapes (rules : Rules) (es : List Edit) (l : Layout) (source source
   pub flushed : sink'.unflushed ≡ false
 
 -- all was read, and the edit of this number is the first that does not apply to its tree
-pub record ReadsUnfit (rules : Rules) (es : List Edit) (source source' : SourceState) (number : ℕ) (why : Refusal) : Type 0 where
+pub record ReadsUnfit (rules : Rules) (es : List Edit) (source source' : SourceState) (number : ℕ) (why : EditRefusal) : Type 0 where
   pub tree : Tree
   pub reads : ReadsInput rules source source' tree
   pub refused : edited es tree ≡ Err (number, why)
 
 -- all was read, every edit applied, and a front of the text of the edited tree in the layout was gained
-pub record GainsFront (rules : Rules) (es : List Edit) (l : Layout) (source source' : SourceState) (sink sink' : SinkState) : Type 0 where
+pub record GainsFront (rules : Rules) (es : List Edit) (l : TextLayout) (source source' : SourceState) (sink sink' : SinkState) : Type 0 where
   pub tree : Tree
   pub reads : ReadsInput rules source source' tree
   pub changed : Tree
@@ -62,7 +62,7 @@ pub record GainsFront (rules : Rules) (es : List Edit) (l : Layout) (source sour
   pub gains : AppendsFront sink.gained sink'.gained (laid_out l changed)
 
 -- ... before memory ran out: to sort the members, in the sink, or for a text of as many bytes as a usize counts
-pub record RunsOut (rules : Rules) (es : List Edit) (l : Layout) (source source' : SourceState) (sink sink' : SinkState) : Type 0 where
+pub record RunsOut (rules : Rules) (es : List Edit) (l : TextLayout) (source source' : SourceState) (sink sink' : SinkState) : Type 0 where
   pub front : GainsFront rules es l source source' sink sink'
   pub cause : l.sorts ≡ false → HasRunOut sink' (length (laid_out l front.changed))
 
@@ -79,7 +79,7 @@ EditingRefuses es tree TypeUnmatched (in_edit number) = edited es tree ≡ Err (
 EditingRefuses es tree code place = ⊥
 
 -- why it was refused, and what that left in the sink: one row for each answer
-abbrev pub ReshapingRefuses : Rules → List Edit → Layout → SourceState → SourceState → SinkState → SinkState → ErrorCode → Place → Type 0
+abbrev pub ReshapingRefuses : Rules → List Edit → TextLayout → SourceState → SourceState → SinkState → SinkState → ErrorCode → Place → Type 0
 ReshapingRefuses rules es l source source' sink sink' NoMemory nowhere = (sink' ≡ sink) ⊎ RunsOut rules es l source source' sink sink'
 ReshapingRefuses rules es l source source' sink sink' Io Reading = Rose source.faults source'.faults × (sink' ≡ sink)
 ReshapingRefuses rules es l source source' sink sink' TooLarge nowhere = RoseBy (max_bytes + 1) source.given source'.given × IfSome source.left (λ b. max_bytes < length b) × (sink' ≡ sink)

@@ -7,7 +7,7 @@ use Rattle.json_io.specs.declared.error.Place.{Place}
 use Rattle.json_io.specs.declared.error.Place.TheVariants.{None as nowhere}
 use Rattle.json_io.specs.Outside.{SourceState, SinkState}
 use Rattle.json_io.specs.FaultText.{text_of}
-use Rattle.json_model.specs.Edit.{Refusal}
+use Rattle.json_model.specs.Edit.{EditRefusal}
 use Rattle.reshape.specs.Options.{Command, Asks, AsksMade, IsAsked}
 use Rattle.reshape.specs.Made.{GainsSummary, SummaryFails}
 use Rattle.reshape.specs.Reshape.{Reshapes, RunsOut, ReshapingRefuses}
@@ -35,8 +35,8 @@ pub record WithMade (words : List (List ℕ)) (holds : ℕ → Type 0) : Type 0 
   pub so : holds number
 
 -- what the words ask for was done: an edited text was written, or the summary of made input, for which nothing is read
-abbrev pub Did : List (List ℕ) → SourceState → SourceState → SinkState → SinkState → Type 0
-Did words source source' sink sink' =
+abbrev pub WritesRequested : List (List ℕ) → SourceState → SourceState → SinkState → SinkState → Type 0
+WritesRequested words source source' sink sink' =
     WithCommand words (λ c. Reshapes c.rules c.es c.layout source source' sink sink') ⊎ WithMade words (λ n. (source' ≡ source) × GainsSummary n sink sink')
 
 -- why it was not done
@@ -46,7 +46,7 @@ Fails words source source' sink sink' code place =
 
 -- status 0
 pub record Done (words : List (List ℕ)) (source source' : SourceState) (sink sink' errs errs' : SinkState) : Type 0 where
-  pub did : Did words source source' sink sink'
+  pub did : WritesRequested words source source' sink sink'
   pub silent : errs' ≡ errs
 
 -- any other status: one error, with its status, its cause, what it left, and its text on errs
@@ -65,5 +65,5 @@ abbrev pub IsBad : List (List ℕ) → SourceState → SourceState → ErrorCode
 IsBad words source source' code place = WithCommand words (λ c. KnownFault c.rules source source' code place)
 
 -- the words ask for a command, the source tells a valid text, the edit of this number is the first that does not apply to it, and no read failed
-abbrev pub IsUnfit : List (List ℕ) → SourceState → SourceState → ℕ → Refusal → Type 0
+abbrev pub IsUnfit : List (List ℕ) → SourceState → SourceState → ℕ → EditRefusal → Type 0
 IsUnfit words source source' number why = WithCommand words (λ c. KnownUnfit c.rules c.es source source' number why)

@@ -5,7 +5,7 @@ ghost use Rattle.reshape.specs.Reshape.{layout_of};
 ghost use Rattle.json_text.specs.Ruled.{rules_of};
 ghost use Rattle.reshape.specs.Asked.{layout_asked, rules_asked};
 
-use json_print::Style;
+use json_layout::Style;
 use json_text::Rules;
 
 /// The style and the rules that the words ask for: compact and not sorted, and the usual rules,

@@ -8,7 +8,7 @@ ghost use Rattle.reshape.specs.Asked.{asked_command};
 use crate::asked_style::AskedStyle;
 use crate::edits::Edits;
 use crate::made::sorted_style;
-use json_print::Style;
+use json_layout::Style;
 use json_text::Rules;
 use json_value::Edit;
 

@@ -5,12 +5,12 @@ ghost use Rattle.json_value.specs.Denotes.{tree_of};
 ghost use Rattle.json_value.specs.Edits.{edit_of};
 ghost use Rattle.reshape.specs.Reshape.{EditingRefuses, place_numbered};
 
-use json_text::{Error, ErrorCode, Place, Result};
+use json_io::{Error, ErrorCode, Place, Result};
 use json_value::{Edit, Value};
 use std::alloc::Global;
 
 // The refusal of one edit, with its number. Want of memory has no place.
-fn numbered(error: Error, number: u32) -> Error
+fn error_at_edit(error: Error, number: u32) -> Error
     ensures code { result.code ≡ error.code }
     ensures place { result.place ≡ place_numbered error.code error.place number }
 {
@@ -38,7 +38,7 @@ pub fn apply_all(alloc: Global, value: &mut Value, edits: &[Edit]) -> Result<()>
     for edit in edits {
         match value.apply(alloc, edit) {
             Ok(()) => number += 1,
-            Err(error) => return Err(numbered(error, number)),
+            Err(error) => return Err(error_at_edit(error, number)),
         }
     }
     Ok(())

@@ -12,8 +12,9 @@ ghost use Rattle.reshape.specs.Known.{KnownFit, ReturnsUnfit};
 
 use crate::editing::apply_all;
 use json_command::{print_value, read_document_from};
-use json_print::Style;
-use json_text::{Result, Rules, Sink, Source};
+use json_io::{Result, Sink, Source};
+use json_layout::Style;
+use json_text::Rules;
 use json_value::{Edit, Value};
 use std::alloc::Global;
 
@@ -42,8 +43,8 @@ fn read_edit_write<S: Source, K: Sink>(
         (S.state source.old) (S.state source.new)
         (K.state sink.old) (K.state sink.new) e.code e.place) }
     ensures taken { TakesOneBeyond max_bytes (S.state source.old) (S.state source.new) }
-    ensures read_told { ReturnsReadError (S.state source.old) (S.state source.new) result }
-    ensures write_told { ReturnsWriteError (K.state sink.old) (K.state sink.new) result }
+    ensures read_error { ReturnsReadError (S.state source.old) (S.state source.new) result }
+    ensures write_error { ReturnsWriteError (K.state sink.old) (K.state sink.new) result }
 {
     let doc = read_document_from(alloc, source, forms.rules)?;
     let mut value = Value::from_place(alloc, &doc, doc.root())?;
@@ -78,8 +79,8 @@ pub fn reshape_with<S: Source, K: Sink>(
         (layout_of style.entry) (S.state source.old) (S.state source.new)
         (K.state sink.old) (K.state sink.new) e.code e.place) }
     ensures taken { TakesOneBeyond max_bytes (S.state source.old) (S.state source.new) }
-    ensures read_told { ReturnsReadError (S.state source.old) (S.state source.new) result }
-    ensures write_told { ReturnsWriteError (K.state sink.old) (K.state sink.new) result }
+    ensures read_error { ReturnsReadError (S.state source.old) (S.state source.new) result }
+    ensures write_error { ReturnsWriteError (K.state sink.old) (K.state sink.new) result }
     ensures complete { KnownFit (rules_of rules) (map edit_of edits.now)
         (S.state source.old) (S.state source.new) (K.state sink.old) (K.state sink.new)
         → IsOkUnless result no_memory }
@@ -108,8 +109,8 @@ pub fn reshape<S: Source, K: Sink>(
         (layout_of style.entry) (S.state source.old) (S.state source.new)
         (K.state sink.old) (K.state sink.new) e.code e.place) }
     ensures taken { TakesOneBeyond max_bytes (S.state source.old) (S.state source.new) }
-    ensures read_told { ReturnsReadError (S.state source.old) (S.state source.new) result }
-    ensures write_told { ReturnsWriteError (K.state sink.old) (K.state sink.new) result }
+    ensures read_error { ReturnsReadError (S.state source.old) (S.state source.new) result }
+    ensures write_error { ReturnsWriteError (K.state sink.old) (K.state sink.new) result }
     ensures complete { KnownFit usual_rules (map edit_of edits.now)
         (S.state source.old) (S.state source.new) (K.state sink.old) (K.state sink.new)
         → IsOkUnless result no_memory }

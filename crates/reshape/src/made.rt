@@ -12,8 +12,8 @@ ghost use Rattle.reshape.specs.Made.{made_record, totals, sorted_compact, IsSumm
 use crate::reshape;
 use itoa::Buffer;
 use json_command::write_text;
-use json_print::Style;
-use json_text::{Result, Sink, SliceSource, VecSink};
+use json_io::{Result, Sink, SliceSource, VecSink};
+use json_layout::Style;
 use std::alloc::Global;
 
 /// Returns the style in which made input is printed: compact, with the members of each object in
@@ -59,7 +59,7 @@ fn make(alloc: Global, records: u32) -> Result<Vec<u8>>
 }
 
 // The text of made input, compact and sorted.
-fn printed(alloc: Global, input: &[u8]) -> Result<Vec<u8>>
+fn print_made(alloc: Global, input: &[u8]) -> Result<Vec<u8>>
     ensures ok { IfOk result (λ v. IsPrinted input.now v.items) }
     ensures err { (tree : Tree) → IsInput usual_rules input.now tree
         → IfErr result (λ e. e ≡ no_memory) }
@@ -109,7 +109,7 @@ fn summary(alloc: Global, records: u32) -> Result<Vec<u8>>
     ensures err { OnlyNoMemory result }
 {
     let input = make(alloc, records)?;
-    let output = printed(alloc, &input)?;
+    let output = print_made(alloc, &input)?;
     let mut text = Vec::new(alloc);
     push_totals(&mut text, b"in ", &input)?;
     push_totals(&mut text, b"out ", &output)?;
@@ -124,7 +124,7 @@ pub fn write_summary<K: Sink>(alloc: Global, records: u32, sink: &mut K) -> Resu
     ensures ok { OnOk result (GainsSummary records (K.state sink.old) (K.state sink.new)) }
     ensures refused { IfErr result (λ e. SummaryFails records
         (K.state sink.old) (K.state sink.new) e.code e.place) }
-    ensures told { ReturnsWriteError (K.state sink.old) (K.state sink.new) result }
+    ensures reported { ReturnsWriteError (K.state sink.old) (K.state sink.new) result }
 {
     let text = summary(alloc, records)?;
     write_text(sink, &text)

@@ -7,7 +7,8 @@ ghost use Rattle.reshape.specs.Gathering.{HasRole, Gathered};
 ghost use Rattle.json_command.specs.Options.{depth_in, width_in};
 
 use json_command::option_number;
-use json_text::{Rules, Words};
+use json_io::Words;
+use json_text::Rules;
 
 // What one word is for.
 #[derive(Clone, Copy)]
@@ -21,7 +22,7 @@ enum Role<'a> {
 
 /// What the words ask for, before the edits word is read.
 #[derive(Clone, Copy)]
-pub(crate) struct Options<'a> {
+pub(crate) struct ParsedOptions<'a> {
     /// The indent, where one is asked for.
     pub indent: Option<&'static str>,
     /// Whether the members of each object are sorted by their keys.
@@ -53,7 +54,7 @@ fn spaces_of(digits: &[u8]) -> Option<&'static str>
 }
 
 // The indent that an option asks for.
-fn indent_of(word: &str) -> Option<&'static str>
+fn read_indent(word: &str) -> Option<&'static str>
     ensures { option_map (λ s. s.now) result ≡ indent_in word.now }
 {
     match word {
@@ -90,7 +91,7 @@ pub fn made_asked(words: &Words) -> Option<u32>
 }
 
 // What a word is for; none where it is an option that is not known.
-fn role_of(word: &str) -> Option<Role<'_>>
+fn read_role(word: &str) -> Option<Role<'_>>
     ensures { MatchOption result (is_known word.now ≡ false) (HasRole word.now) }
 {
     if !word.as_bytes().starts_with(b"--") {
@@ -105,36 +106,36 @@ fn role_of(word: &str) -> Option<Role<'_>>
     if let Some(levels) = depth_of(word) {
         return Some(Role::Depth(levels));
     }
-    let indent = indent_of(word)?;
+    let indent = read_indent(word)?;
     Some(Role::Indent(indent))
 }
 
-impl<'a> Options<'a> {
+impl<'a> ParsedOptions<'a> {
     // With one more word; none where it is unknown, or another like it was there.
-    fn take_word(self, word: &'a str) -> Option<Options<'a>>
+    fn take_word(self, word: &'a str) -> Option<ParsedOptions<'a>>
         ensures taken { IfSome result (λ o. (ws : List (List ℕ))
             → Gathered ws self.entry → Gathered (ws ++ word.now ∷ []) o) }
         ensures refused { IfNone result ((ws more : List (List ℕ))
             → Gathered ws self.entry → ¬ (IsReshaping (ws ++ word.now ∷ more))) }
     {
-        match role_of(word)? {
-            Role::Indent(indent) if self.indent.is_none() => Some(Options {
+        match read_role(word)? {
+            Role::Indent(indent) if self.indent.is_none() => Some(ParsedOptions {
                 indent: Some(indent),
                 ..self
             }),
-            Role::SortKeys if !self.sorted => Some(Options {
+            Role::SortKeys if !self.sorted => Some(ParsedOptions {
                 sorted: true,
                 ..self
             }),
-            Role::UniqueKeys if !self.unique => Some(Options {
+            Role::UniqueKeys if !self.unique => Some(ParsedOptions {
                 unique: true,
                 ..self
             }),
-            Role::Depth(levels) if self.depth.is_none() => Some(Options {
+            Role::Depth(levels) if self.depth.is_none() => Some(ParsedOptions {
                 depth: Some(levels),
                 ..self
             }),
-            Role::EditsWord(edits) if self.edits.is_none() => Some(Options {
+            Role::EditsWord(edits) if self.edits.is_none() => Some(ParsedOptions {
                 edits: Some(edits),
                 ..self
             }),
@@ -159,10 +160,10 @@ impl<'a> Options<'a> {
 /// Returns the options and the edits word among the words. `None` if an option is unknown or occurs
 /// twice, with the same number or another, if two options ask for an indent, or if two words are no
 /// options.
-pub fn gather(words: &Words) -> Option<Options<'_>>
+pub fn gather(words: &Words) -> Option<ParsedOptions<'_>>
     ensures { MatchOption result (¬ (IsReshaping words.now)) (Gathered words.now) }
 {
-    let mut options = Options {
+    let mut options = ParsedOptions {
         indent: None,
         sorted: false,
         unique: false,

@@ -4,12 +4,12 @@ ghost use Rattle.json_io.specs.declared.error.ErrorCode.{ErrorCode};
 ghost use Rattle.json_io.specs.declared.error.Place.{Place};
 ghost use Rattle.json_io.specs.Transfer.{TakesOneBeyond};
 ghost use Rattle.json_command.specs.Input.{max_bytes};
-ghost use Rattle.json_model.specs.Edit.{Refusal};
+ghost use Rattle.json_model.specs.Edit.{EditRefusal};
 ghost use Rattle.reshape.specs.Options.{IsAsked, IsMaking};
 ghost use Rattle.json_command.specs.Printing.{ReturnsWriteError};
 ghost use Rattle.json_command.specs.Reading.{ReturnsReadError};
 ghost use Rattle.json_command.specs.Reporting.{StatusReports};
-ghost use Rattle.reshape.specs.Run.{Did, Fails, Done, ReportsRunError, IsGood, IsBad, IsUnfit};
+ghost use Rattle.reshape.specs.Run.{WritesRequested, Fails, Done, ReportsRunError, IsGood, IsBad, IsUnfit};
 ghost use Rattle.reshape.specs.Known.{edit_refused};
 ghost use Rattle.json_command.specs.Statuses.{ReturnsReadStatus, ReturnsWriteStatus};
 
@@ -18,7 +18,7 @@ use crate::made::write_summary;
 use crate::reshape_with;
 use crate::words::asked;
 use json_command::{Status, report};
-use json_text::{Result, Sink, Source, Words};
+use json_io::{Result, Sink, Source, Words};
 use std::alloc::Global;
 
 fn carry_out<S: Source, K: Sink>(
@@ -27,14 +27,14 @@ fn carry_out<S: Source, K: Sink>(
     source: &mut S,
     sink: &mut K,
 ) -> Result<()>
-    ensures done { OnOk result (Did words.now (S.state source.old) (S.state source.new)
+    ensures done { OnOk result (WritesRequested words.now (S.state source.old) (S.state source.new)
         (K.state sink.old) (K.state sink.new)) }
     ensures unread { IsMaking words.now → S.state source.new ≡ S.state source.old }
     ensures refused { IfErr result (λ e. Fails words.now (S.state source.old) (S.state source.new)
         (K.state sink.old) (K.state sink.new) e.code e.place) }
     ensures taken { TakesOneBeyond max_bytes (S.state source.old) (S.state source.new) }
-    ensures read_told { ReturnsReadError (S.state source.old) (S.state source.new) result }
-    ensures write_told { ReturnsWriteError (K.state sink.old) (K.state sink.new) result }
+    ensures read_error { ReturnsReadError (S.state source.old) (S.state source.new) result }
+    ensures write_error { ReturnsWriteError (K.state sink.old) (K.state sink.new) result }
 {
     let asked = asked(alloc, words)?;
     match asked {
@@ -63,11 +63,11 @@ pub fn run<S: Source, K: Sink, E: Sink>(
         (S.state source.old) (S.state source.new)
         (K.state sink.old) (K.state sink.new) (E.state errs.old) (E.state errs.new) }
     ensures taken { TakesOneBeyond max_bytes (S.state source.old) (S.state source.new) }
-    ensures read_told { ReturnsReadStatus (S.state source.old) (S.state source.new) result }
-    ensures write_told { ReturnsWriteStatus (K.state sink.old) (K.state sink.new) result }
+    ensures read_error { ReturnsReadStatus (S.state source.old) (S.state source.new) result }
+    ensures write_error { ReturnsWriteStatus (K.state sink.old) (K.state sink.new) result }
     ensures complete { IsGood words.now (S.state source.old) (S.state source.new)
         (K.state sink.old) (K.state sink.new) → (result ≡ 0) ⊎ (result ≡ 6) }
-    ensures unfit { (number : ℕ) (why : Refusal)
+    ensures unfit { (number : ℕ) (why : EditRefusal)
         → IsUnfit words.now (S.state source.old) (S.state source.new) number why
         → StatusReports 3 (edit_refused number why) (E.state errs.old) (E.state errs.new) result }
     ensures unread { IsMaking words.now → S.state source.new ≡ S.state source.old }

@@ -12,7 +12,7 @@ use crate::edits::Edits;
 use crate::options::{gather, made_asked};
 use json_command::{BAD_WORDS, arguments_error};
 use json_data::from_str;
-use json_text::{Result, Words};
+use json_io::{Result, Words};
 use json_value::Edit;
 use std::alloc::Global;
 

@@ -6,8 +6,8 @@ ghost use Rattle.json_explain.specs.Refused.{field_reading, object_refused, stru
 
 use super::{BTreeMap, Config, Server};
 use json_derive::{
-    Builder, DeserializeFrom, ErrorCode, Events, Field, KeyRoom, Lent, Result, Serialize, Tokens,
-    find_struct, give_fields, read_struct, refusal, required,
+    Builder, DeserializeFrom, ErrorCode, Events, Field, InputStr, KeyRoom, Result, Serialize,
+    Tokens, error_without_place, read_struct, required, serialize_fields, try_read_struct,
 };
 use json_explain::{Explain, ExplainMembers, Piece, Refusal, explain_key, explain_members};
 use std::alloc::Global;
@@ -19,7 +19,7 @@ struct ServerBuilder {
     port: Option<u16>,
 }
 
-impl<S: Lent> Builder<S> for ServerBuilder {
+impl<S: InputStr> Builder<S> for ServerBuilder {
     type Built = Server;
 
     ghost shape = { record {
@@ -69,7 +69,7 @@ impl<S: Lent> Builder<S> for ServerBuilder {
     }
 }
 
-impl<S: Lent> DeserializeFrom<S> for Server {
+impl<S: InputStr> DeserializeFrom<S> for Server {
     ghost datum = { λ v. struct_datum ⟦<ServerBuilder as Builder<S>>⟧.shape (⟦<ServerBuilder as Builder<S>>⟧.values v) };
 
     ghost from_tree = { spec_read_struct ⟦<ServerBuilder as Builder<S>>⟧.shape };
@@ -78,8 +78,8 @@ impl<S: Lent> DeserializeFrom<S> for Server {
         read_struct::<S, ServerBuilder, T>(alloc, tokens)
     }
 
-    fn found<T: Tokens<S>>(alloc: Global, tokens: &mut T) -> Result<Option<Server>> {
-        find_struct::<S, ServerBuilder, T>(alloc, tokens)
+    fn try_deserialize<T: Tokens<S>>(alloc: Global, tokens: &mut T) -> Result<Option<Server>> {
+        try_read_struct::<S, ServerBuilder, T>(alloc, tokens)
     }
 }
 
@@ -90,7 +90,7 @@ struct ServerSeen {
     port: bool,
 }
 
-impl<S: Lent> ExplainMembers<S> for ServerSeen {
+impl<S: InputStr> ExplainMembers<S> for ServerSeen {
     ghost reading = { struct_reading false (field_reading (codes "host") ⟦<String as Explain<S>>⟧.refused true
         ∷ field_reading (codes "port") ⟦<u16 as Explain<S>>⟧.refused true
         ∷ []) };
@@ -132,7 +132,7 @@ impl<S: Lent> ExplainMembers<S> for ServerSeen {
     }
 }
 
-impl<S: Lent> Explain<S> for Server {
+impl<S: InputStr> Explain<S> for Server {
     ghost refused = { object_refused ⟦<ServerSeen as ExplainMembers<S>>⟧.reading (false ∷ false ∷ []) };
 
     fn explain<T: Tokens<S>>(alloc: Global, tokens: &mut T) -> Result<Option<Refusal>> {
@@ -158,7 +158,7 @@ impl Serialize for Server {
                 value: &self.port,
             },
         );
-        give_fields(&fields, out)
+        serialize_fields(&fields, out)
     }
 
     fn key<'k>(&'k self, room: &'k mut KeyRoom) -> Option<&'k str> {
@@ -175,7 +175,7 @@ struct ConfigBuilder {
     waits: Option<Vec<Option<u32>>>,
 }
 
-impl<S: Lent> Builder<S> for ConfigBuilder {
+impl<S: InputStr> Builder<S> for ConfigBuilder {
     type Built = Config;
 
     ghost shape = { record {
@@ -222,7 +222,7 @@ impl<S: Lent> Builder<S> for ConfigBuilder {
             }
             _ => {
                 tokens.skip()?;
-                return Err(refusal(ErrorCode::TypeUnmatched));
+                return Err(error_without_place(ErrorCode::TypeUnmatched));
             }
         }
         Ok(())
@@ -248,7 +248,7 @@ impl<S: Lent> Builder<S> for ConfigBuilder {
     }
 }
 
-impl<S: Lent> DeserializeFrom<S> for Config {
+impl<S: InputStr> DeserializeFrom<S> for Config {
     ghost datum = { λ v. struct_datum ⟦<ConfigBuilder as Builder<S>>⟧.shape (⟦<ConfigBuilder as Builder<S>>⟧.values v) };
 
     ghost from_tree = { spec_read_struct ⟦<ConfigBuilder as Builder<S>>⟧.shape };
@@ -257,8 +257,8 @@ impl<S: Lent> DeserializeFrom<S> for Config {
         read_struct::<S, ConfigBuilder, T>(alloc, tokens)
     }
 
-    fn found<T: Tokens<S>>(alloc: Global, tokens: &mut T) -> Result<Option<Config>> {
-        find_struct::<S, ConfigBuilder, T>(alloc, tokens)
+    fn try_deserialize<T: Tokens<S>>(alloc: Global, tokens: &mut T) -> Result<Option<Config>> {
+        try_read_struct::<S, ConfigBuilder, T>(alloc, tokens)
     }
 }
 
@@ -270,7 +270,7 @@ struct ConfigSeen {
     waits: bool,
 }
 
-impl<S: Lent> ExplainMembers<S> for ConfigSeen {
+impl<S: InputStr> ExplainMembers<S> for ConfigSeen {
     ghost reading = { struct_reading true (field_reading (codes "servers") ⟦<Vec<Server> as Explain<S>>⟧.refused true
         ∷ field_reading (codes "names") ⟦<BTreeMap<u16, String> as Explain<S>>⟧.refused false
         ∷ field_reading (codes "waits") ⟦<Vec<Option<u32>> as Explain<S>>⟧.refused false
@@ -311,7 +311,7 @@ impl<S: Lent> ExplainMembers<S> for ConfigSeen {
     }
 }
 
-impl<S: Lent> Explain<S> for Config {
+impl<S: InputStr> Explain<S> for Config {
     ghost refused = { object_refused ⟦<ConfigSeen as ExplainMembers<S>>⟧.reading (false ∷ false ∷ false ∷ []) };
 
     fn explain<T: Tokens<S>>(alloc: Global, tokens: &mut T) -> Result<Option<Refusal>> {
@@ -344,7 +344,7 @@ impl Serialize for Config {
                 },
             ),
         );
-        give_fields(&fields, out)
+        serialize_fields(&fields, out)
     }
 
     fn key<'k>(&'k self, room: &'k mut KeyRoom) -> Option<&'k str> {

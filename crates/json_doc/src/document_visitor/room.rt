@@ -5,7 +5,7 @@ ghost use Rattle.json_io.specs.Errors.{OnlyNoMemory};
 ghost use Rattle.json_doc.specs.Recorded.{visitor_state, Holds};
 
 use super::DocumentVisitor;
-use json_text::{Error, ErrorCode, Place, Result};
+use json_io::{Error, ErrorCode, Place, Result};
 
 /// The most nodes and keys, and the most bytes of text, of a document.
 const MOST: usize = 4_294_967_295;

@@ -5,7 +5,7 @@ ghost use Rattle.json_print.specs.Printer.{call};
 ghost use Rattle.json_print.specs.Serializing.{StepsBy, out_of};
 ghost use Rattle.json_print.specs.Steps.{stop_of};
 
-use super::{Halted, Serializer, Step};
+use super::{Serializer, SerializerFailed, SerializerResult};
 use crate::Formatter;
 use crate::part::{Part, write_part};
 use json_io::{Error, ErrorCode, Place, Sink};
@@ -30,28 +30,28 @@ impl<W: Sink, F: Formatter> Serializer<W, F> {
     // Keeps the error.
     #[cold]
     #[inline(never)]
-    pub(super) fn halt(&mut self, error: Error) -> Halted
+    pub(super) fn halt(&mut self, error: Error) -> SerializerFailed
         ensures { self.new ≡ record self.old { failed = Some error } }
     {
         self.failed = Some(error);
-        Halted
+        SerializerFailed
     }
 
     // Keeps the error of a sink. It is made here of its code, since an error that is passed on as a
     // whole is copied from level to level at each token, met or not.
     #[cold]
     #[inline(never)]
-    pub(super) fn halt_by(&mut self, code: ErrorCode) -> Halted
+    pub(super) fn halt_by(&mut self, code: ErrorCode) -> SerializerFailed
         ensures { self.new ≡ record self.old { failed = Some (stop_of code) } }
     {
         self.failed = Some(stop_of(code));
-        Halted
+        SerializerFailed
     }
 
     // A call of the formatter where members may wait: out of line, so that its answers are not
     // cleared at each token.
     #[inline(never)]
-    pub(super) fn call_waiting(&mut self, part: Part<'_>) -> Step
+    pub(super) fn call_waiting(&mut self, part: Part<'_>) -> SerializerResult
         requires { self.old.failed ≡ None }
         ensures { StepsBy W.state self.old self.new
             (λ s. call F.form s (meaning part.entry)) result }

@@ -7,20 +7,20 @@ ghost use Rattle.json_print.specs.Printer.{emptied, emptied_in, filed_in, is_fir
 ghost use Rattle.json_print.specs.Rows.{IsOrderOf, members_written};
 ghost use Rattle.json_print.specs.Serializing.{StepsBy, out_of};
 
-use super::{Halted, Serializer, Step};
+use super::{Serializer, SerializerFailed, SerializerResult};
 use crate::order::Numbered;
 use crate::part::Part;
 use crate::sorted::{SortedObject, put_rows};
-use crate::{Formatter, Turn};
+use crate::{ExpectedEvent, Formatter};
 use json_grammar::Kind;
 use json_io::{Error, ErrorCode, Sink};
 
 #[inline(always)]
-fn first_key(turn: Turn) -> bool
+fn first_key(turn: ExpectedEvent) -> bool
     ensures { result ≡ is_first turn }
 {
     match turn {
-        Turn::Key(first) => first,
+        ExpectedEvent::Key(first) => first,
         _ => true,
     }
 }
@@ -28,21 +28,21 @@ fn first_key(turn: Turn) -> bool
 impl<W: Sink, F: Formatter> Serializer<W, F> {
     // What is written before a value, where members wait.
     #[inline(never)]
-    fn value_begin(&mut self) -> Step
+    fn value_begin(&mut self) -> SerializerResult
         requires { self.old.failed ≡ None }
         ensures { StepsBy W.state self.old self.new (value_begun F.form) result }
     {
         match self.turn {
-            Turn::Value | Turn::Key(_) | Turn::Done => Ok(()),
-            Turn::Element(first) => self.call_waiting(Part::BeginElement(first)),
-            Turn::Member if self.sorts => Ok(()),
-            Turn::Member => self.call_waiting(Part::BeginMember),
+            ExpectedEvent::Value | ExpectedEvent::Key(_) | ExpectedEvent::Done => Ok(()),
+            ExpectedEvent::Element(first) => self.call_waiting(Part::BeginElement(first)),
+            ExpectedEvent::Member if self.sorts => Ok(()),
+            ExpectedEvent::Member => self.call_waiting(Part::BeginMember),
         }
     }
 
     // The open member of the innermost object is finished.
     #[inline(never)]
-    fn file(&mut self) -> Step
+    fn file(&mut self) -> SerializerResult
         requires { self.old.failed ≡ None }
         ensures { StepsBy W.state self.old self.new filed_in result }
     {
@@ -57,21 +57,21 @@ impl<W: Sink, F: Formatter> Serializer<W, F> {
 
     // What is written after a value, where members wait.
     #[inline(never)]
-    fn value_end(&mut self) -> Step
+    fn value_end(&mut self) -> SerializerResult
         requires { self.old.failed ≡ None }
         ensures { StepsBy W.state self.old self.new (value_ended F.form) result }
     {
         match self.opened.last() {
             None => {
-                self.turn = Turn::Done;
+                self.turn = ExpectedEvent::Done;
                 Ok(())
             }
             Some(Kind::Array) => {
-                self.turn = Turn::Element(false);
+                self.turn = ExpectedEvent::Element(false);
                 self.call_waiting(Part::EndElement)
             }
             Some(Kind::Object) => {
-                self.turn = Turn::Key(false);
+                self.turn = ExpectedEvent::Key(false);
                 if self.sorts {
                     self.file()
                 } else {
@@ -83,7 +83,7 @@ impl<W: Sink, F: Formatter> Serializer<W, F> {
 
     // A scalar where members wait.
     #[inline(never)]
-    fn scalar_waiting(&mut self, part: Part<'_>) -> Step
+    fn scalar_waiting(&mut self, part: Part<'_>) -> SerializerResult
         requires { self.old.failed ≡ None }
         ensures { StepsBy W.state self.old self.new
             (λ s. took_scalar F.form s (meaning part.entry)) result }
@@ -95,7 +95,7 @@ impl<W: Sink, F: Formatter> Serializer<W, F> {
 
     // A string where members wait.
     #[inline(never)]
-    fn string_waiting(&mut self, text: &str) -> Step
+    fn string_waiting(&mut self, text: &str) -> SerializerResult
         requires { self.old.failed ≡ None }
         ensures { StepsBy W.state self.old self.new
             (λ s. took_scalar F.form s (string_call true text.now)) result }
@@ -105,7 +105,7 @@ impl<W: Sink, F: Formatter> Serializer<W, F> {
 
     // The scalars, each out of line: what is in line where tokens are given stays small.
     #[inline(never)]
-    pub(super) fn null_value(&mut self) -> Step
+    pub(super) fn null_value(&mut self) -> SerializerResult
         requires { self.old.failed ≡ None }
         ensures { StepsBy W.state self.old self.new
             (λ s. took_scalar F.form s null_call) result }
@@ -119,7 +119,7 @@ impl<W: Sink, F: Formatter> Serializer<W, F> {
     }
 
     #[inline(never)]
-    pub(super) fn boolean_value(&mut self, b: bool) -> Step
+    pub(super) fn boolean_value(&mut self, b: bool) -> SerializerResult
         requires { self.old.failed ≡ None }
         ensures { StepsBy W.state self.old self.new
             (λ s. took_scalar F.form s (boolean_call b)) result }
@@ -133,7 +133,7 @@ impl<W: Sink, F: Formatter> Serializer<W, F> {
     }
 
     #[inline(never)]
-    pub(super) fn scalar(&mut self, part: Part<'_>) -> Step
+    pub(super) fn scalar(&mut self, part: Part<'_>) -> SerializerResult
         requires { self.old.failed ≡ None }
         ensures { StepsBy W.state self.old self.new
             (λ s. took_scalar F.form s (meaning part.entry)) result }
@@ -147,7 +147,7 @@ impl<W: Sink, F: Formatter> Serializer<W, F> {
     }
 
     #[inline(never)]
-    pub(super) fn unsigned(&mut self, n: u128) -> Step
+    pub(super) fn unsigned(&mut self, n: u128) -> SerializerResult
         requires { self.old.failed ≡ None }
         ensures { StepsBy W.state self.old self.new
             (λ s. took_scalar F.form s (unsigned_call n)) result }
@@ -161,7 +161,7 @@ impl<W: Sink, F: Formatter> Serializer<W, F> {
     }
 
     #[inline(never)]
-    pub(super) fn number(&mut self, literal: &str) -> Step
+    pub(super) fn number(&mut self, literal: &str) -> SerializerResult
         requires { self.old.failed ≡ None }
         ensures { StepsBy W.state self.old self.new
             (λ s. took_scalar F.form s (number_call literal.now)) result }
@@ -175,7 +175,7 @@ impl<W: Sink, F: Formatter> Serializer<W, F> {
     }
 
     #[inline(never)]
-    pub(super) fn string(&mut self, text: &str) -> Step
+    pub(super) fn string(&mut self, text: &str) -> SerializerResult
         requires { self.old.failed ≡ None }
         ensures { StepsBy W.state self.old self.new
             (λ s. took_scalar F.form s (string_call true text.now)) result }
@@ -205,7 +205,7 @@ impl<W: Sink, F: Formatter> Serializer<W, F> {
 
     // Puts an object on those whose members wait.
     #[inline(never)]
-    fn open_object(&mut self) -> Step
+    fn open_object(&mut self) -> SerializerResult
         requires { self.old.failed ≡ None }
         ensures { StepsBy W.state self.old self.new layered_in result }
     {
@@ -218,7 +218,7 @@ impl<W: Sink, F: Formatter> Serializer<W, F> {
 
     // Puts a container on those that are open.
     #[inline(always)]
-    fn open(&mut self, kind: Kind) -> Step
+    fn open(&mut self, kind: Kind) -> SerializerResult
         requires { self.old.failed ≡ None }
         ensures { StepsBy W.state self.old self.new (λ s. opened_up s kind) result }
     {
@@ -228,11 +228,11 @@ impl<W: Sink, F: Formatter> Serializer<W, F> {
         }
         match kind {
             Kind::Array => {
-                self.turn = Turn::Element(true);
+                self.turn = ExpectedEvent::Element(true);
                 Ok(())
             }
             Kind::Object => {
-                self.turn = Turn::Key(true);
+                self.turn = ExpectedEvent::Key(true);
                 if self.sorts {
                     self.open_object()
                 } else {
@@ -244,7 +244,7 @@ impl<W: Sink, F: Formatter> Serializer<W, F> {
 
     // The beginning of a container where members wait.
     #[inline(never)]
-    fn begin_waiting(&mut self, kind: Kind) -> Step
+    fn begin_waiting(&mut self, kind: Kind) -> SerializerResult
         requires { self.old.failed ≡ None }
         ensures { StepsBy W.state self.old self.new (λ s. took_begin F.form s kind) result }
     {
@@ -254,7 +254,7 @@ impl<W: Sink, F: Formatter> Serializer<W, F> {
     }
 
     #[inline(never)]
-    pub(super) fn begin(&mut self, kind: Kind) -> Step
+    pub(super) fn begin(&mut self, kind: Kind) -> SerializerResult
         requires { self.old.failed ≡ None }
         ensures { StepsBy W.state self.old self.new (λ s. took_begin F.form s kind) result }
     {
@@ -267,7 +267,7 @@ impl<W: Sink, F: Formatter> Serializer<W, F> {
     }
 
     // The rows of an object in this order.
-    fn put_in_order(&mut self, object: &SortedObject, order: &[Numbered<'_>]) -> Step
+    fn put_in_order(&mut self, object: &SortedObject, order: &[Numbered<'_>]) -> SerializerResult
         requires goes { self.old.failed ≡ None }
         requires order { IsOrderOf order.now object.now.rows }
         ensures { StepsBy W.state self.old self.new (members_written F.form object.now) result }
@@ -285,7 +285,7 @@ impl<W: Sink, F: Formatter> Serializer<W, F> {
     }
 
     // The rows of an object in the order of their keys.
-    fn put_object(&mut self, object: &SortedObject) -> Step
+    fn put_object(&mut self, object: &SortedObject) -> SerializerResult
         requires { self.old.failed ≡ None }
         ensures { StepsBy W.state self.old self.new (members_put F.form object.now) result }
     {
@@ -297,7 +297,7 @@ impl<W: Sink, F: Formatter> Serializer<W, F> {
 
     // The members of the innermost object in their order.
     #[inline(never)]
-    fn put_members(&mut self) -> Step
+    fn put_members(&mut self) -> SerializerResult
         requires { self.old.failed ≡ None }
         ensures { StepsBy W.state self.old self.new (emptied_in F.form) result }
     {
@@ -313,7 +313,7 @@ impl<W: Sink, F: Formatter> Serializer<W, F> {
 
     // What is written before the end of a container.
     #[inline(always)]
-    fn empty(&mut self, kind: Kind) -> Step
+    fn empty(&mut self, kind: Kind) -> SerializerResult
         requires { self.old.failed ≡ None }
         ensures { StepsBy W.state self.old self.new (λ s. emptied F.form s kind) result }
     {
@@ -331,7 +331,7 @@ impl<W: Sink, F: Formatter> Serializer<W, F> {
 
     // The end of a container after its members, where members wait around it.
     #[inline(never)]
-    fn close_waiting(&mut self, kind: Kind) -> Step
+    fn close_waiting(&mut self, kind: Kind) -> SerializerResult
         requires { self.old.failed ≡ None }
         ensures { StepsBy W.state self.old self.new (λ s. closed F.form s kind) result }
     {
@@ -342,7 +342,7 @@ impl<W: Sink, F: Formatter> Serializer<W, F> {
 
     // The end of a container after its members.
     #[inline(always)]
-    fn close(&mut self, kind: Kind) -> Step
+    fn close(&mut self, kind: Kind) -> SerializerResult
         requires { self.old.failed ≡ None }
         ensures { StepsBy W.state self.old self.new (λ s. closed F.form s kind) result }
     {
@@ -355,7 +355,7 @@ impl<W: Sink, F: Formatter> Serializer<W, F> {
     }
 
     #[inline(never)]
-    pub(super) fn end(&mut self, kind: Kind) -> Step
+    pub(super) fn end(&mut self, kind: Kind) -> SerializerResult
         requires { self.old.failed ≡ None }
         ensures { StepsBy W.state self.old self.new (λ s. took_end F.form s kind) result }
     {
@@ -365,7 +365,7 @@ impl<W: Sink, F: Formatter> Serializer<W, F> {
 
     // The key of the open member of the innermost object.
     #[inline(never)]
-    fn keep_key(&mut self, key: &str) -> Step
+    fn keep_key(&mut self, key: &str) -> SerializerResult
         requires { self.old.failed ≡ None }
         ensures { StepsBy W.state self.old self.new (λ s. key_kept s key.now) result }
     {
@@ -380,7 +380,7 @@ impl<W: Sink, F: Formatter> Serializer<W, F> {
 
     // A key and what is written around it, where members wait.
     #[inline(never)]
-    fn key_waiting(&mut self, key: &str) -> Step
+    fn key_waiting(&mut self, key: &str) -> SerializerResult
         requires { self.old.failed ≡ None }
         ensures { StepsBy W.state self.old self.new (λ s. key_written F.form s key.now) result }
     {
@@ -392,7 +392,7 @@ impl<W: Sink, F: Formatter> Serializer<W, F> {
 
     // A key and what is written around it.
     #[inline(always)]
-    fn write_key(&mut self, key: &str) -> Step
+    fn write_key(&mut self, key: &str) -> SerializerResult
         requires { self.old.failed ≡ None }
         ensures { StepsBy W.state self.old self.new (λ s. key_written F.form s key.now) result }
     {
@@ -406,7 +406,7 @@ impl<W: Sink, F: Formatter> Serializer<W, F> {
     }
 
     #[inline(always)]
-    fn put_key(&mut self, key: &str) -> Step
+    fn put_key(&mut self, key: &str) -> SerializerResult
         requires { self.old.failed ≡ None }
         ensures { StepsBy W.state self.old self.new (λ s. keyed F.form s key.now) result }
     {
@@ -418,12 +418,12 @@ impl<W: Sink, F: Formatter> Serializer<W, F> {
     }
 
     #[inline(never)]
-    pub(super) fn key_text(&mut self, key: &str) -> Step
+    pub(super) fn key_text(&mut self, key: &str) -> SerializerResult
         requires { self.old.failed ≡ None }
         ensures { StepsBy W.state self.old self.new (λ s. took_key F.form s key.now) result }
     {
         self.put_key(key)?;
-        self.turn = Turn::Member;
+        self.turn = ExpectedEvent::Member;
         Ok(())
     }
 }

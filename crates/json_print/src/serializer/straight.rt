@@ -5,9 +5,9 @@ ghost use Rattle.json_print.specs.Parts.{meaning};
 ghost use Rattle.json_print.specs.Printer.{call, value_begun, value_ended};
 ghost use Rattle.json_print.specs.Serializing.{StepsBy, out_of};
 
-use super::{Serializer, Step};
+use super::{Serializer, SerializerResult};
 use crate::part::{Part, write_part, write_uint};
-use crate::{Formatter, Turn};
+use crate::{ExpectedEvent, Formatter};
 use json_grammar::Kind;
 use json_io::Sink;
 
@@ -23,7 +23,7 @@ macro_rules! straight {
 
 impl<W: Sink, F: Formatter> Serializer<W, F> {
     #[inline(always)]
-    pub(super) fn null_straight(&mut self) -> Step
+    pub(super) fn null_straight(&mut self) -> SerializerResult
         requires goes { self.old.failed ≡ None }
         requires straight { self.old.objects.items ≡ [] }
         ensures steps { StepsBy W.state self.old self.new (λ s. call F.form s null_call) result }
@@ -33,7 +33,7 @@ impl<W: Sink, F: Formatter> Serializer<W, F> {
     }
 
     #[inline(always)]
-    pub(super) fn boolean_straight(&mut self, b: bool) -> Step
+    pub(super) fn boolean_straight(&mut self, b: bool) -> SerializerResult
         requires goes { self.old.failed ≡ None }
         requires straight { self.old.objects.items ≡ [] }
         ensures steps { StepsBy W.state self.old self.new (λ s.
@@ -44,7 +44,7 @@ impl<W: Sink, F: Formatter> Serializer<W, F> {
     }
 
     #[inline(always)]
-    pub(super) fn part_straight(&mut self, part: Part<'_>) -> Step
+    pub(super) fn part_straight(&mut self, part: Part<'_>) -> SerializerResult
         requires goes { self.old.failed ≡ None }
         requires straight { self.old.objects.items ≡ [] }
         ensures steps { StepsBy W.state self.old self.new (λ s.
@@ -58,7 +58,7 @@ impl<W: Sink, F: Formatter> Serializer<W, F> {
     }
 
     #[inline(always)]
-    pub(super) fn unsigned_straight(&mut self, n: u128) -> Step
+    pub(super) fn unsigned_straight(&mut self, n: u128) -> SerializerResult
         requires goes { self.old.failed ≡ None }
         requires straight { self.old.objects.items ≡ [] }
         ensures steps { StepsBy W.state self.old self.new (λ s.
@@ -69,7 +69,7 @@ impl<W: Sink, F: Formatter> Serializer<W, F> {
     }
 
     #[inline(always)]
-    pub(super) fn number_straight(&mut self, literal: &str) -> Step
+    pub(super) fn number_straight(&mut self, literal: &str) -> SerializerResult
         requires goes { self.old.failed ≡ None }
         requires straight { self.old.objects.items ≡ [] }
         ensures steps { StepsBy W.state self.old self.new (λ s.
@@ -83,7 +83,7 @@ impl<W: Sink, F: Formatter> Serializer<W, F> {
     }
 
     #[inline(always)]
-    pub(super) fn text_straight(&mut self, text: &str) -> Step
+    pub(super) fn text_straight(&mut self, text: &str) -> SerializerResult
         requires goes { self.old.failed ≡ None }
         requires straight { self.old.objects.items ≡ [] }
         ensures steps { StepsBy W.state self.old self.new (λ s.
@@ -98,7 +98,7 @@ impl<W: Sink, F: Formatter> Serializer<W, F> {
     }
 
     #[inline(always)]
-    pub(super) fn begin_key_straight(&mut self, first: bool) -> Step
+    pub(super) fn begin_key_straight(&mut self, first: bool) -> SerializerResult
         requires goes { self.old.failed ≡ None }
         requires straight { self.old.objects.items ≡ [] }
         ensures steps { StepsBy W.state self.old self.new (λ s.
@@ -112,7 +112,7 @@ impl<W: Sink, F: Formatter> Serializer<W, F> {
     }
 
     #[inline(always)]
-    pub(super) fn end_key_straight(&mut self) -> Step
+    pub(super) fn end_key_straight(&mut self) -> SerializerResult
         requires goes { self.old.failed ≡ None }
         requires straight { self.old.objects.items ≡ [] }
         ensures steps { StepsBy W.state self.old self.new (λ s. call F.form s end_key) result }
@@ -122,7 +122,7 @@ impl<W: Sink, F: Formatter> Serializer<W, F> {
     }
 
     #[inline(always)]
-    fn end_element_straight(&mut self) -> Step
+    fn end_element_straight(&mut self) -> SerializerResult
         requires goes { self.old.failed ≡ None }
         requires straight { self.old.objects.items ≡ [] }
         ensures steps { StepsBy W.state self.old self.new (λ s. call F.form s end_element) result }
@@ -132,7 +132,7 @@ impl<W: Sink, F: Formatter> Serializer<W, F> {
     }
 
     #[inline(always)]
-    fn end_member_straight(&mut self) -> Step
+    fn end_member_straight(&mut self) -> SerializerResult
         requires goes { self.old.failed ≡ None }
         requires straight { self.old.objects.items ≡ [] }
         ensures steps { StepsBy W.state self.old self.new (λ s. call F.form s end_member) result }
@@ -142,7 +142,7 @@ impl<W: Sink, F: Formatter> Serializer<W, F> {
     }
 
     #[inline(always)]
-    pub(super) fn begin_straight(&mut self, kind: Kind) -> Step
+    pub(super) fn begin_straight(&mut self, kind: Kind) -> SerializerResult
         requires goes { self.old.failed ≡ None }
         requires straight { self.old.objects.items ≡ [] }
         ensures { StepsBy W.state self.old self.new (λ s. call F.form s (begin_call kind)) result }
@@ -154,7 +154,7 @@ impl<W: Sink, F: Formatter> Serializer<W, F> {
     }
 
     #[inline(always)]
-    pub(super) fn end_straight(&mut self, kind: Kind) -> Step
+    pub(super) fn end_straight(&mut self, kind: Kind) -> SerializerResult
         requires goes { self.old.failed ≡ None }
         requires straight { self.old.objects.items ≡ [] }
         ensures steps { StepsBy W.state self.old self.new
@@ -169,43 +169,46 @@ impl<W: Sink, F: Formatter> Serializer<W, F> {
 
     // What is written before a value.
     #[inline(always)]
-    pub(super) fn value_begin_straight(&mut self) -> Step
+    pub(super) fn value_begin_straight(&mut self) -> SerializerResult
         requires goes { self.old.failed ≡ None }
         requires straight { self.old.objects.items ≡ [] }
         ensures steps { StepsBy W.state self.old self.new (value_begun F.form) result }
         ensures straight { self.new.objects.items ≡ [] }
     {
         match self.turn {
-            Turn::Element(first) => {
+            ExpectedEvent::Element(first) => {
                 straight!(
                     self,
                     self.formatter.begin_array_value(&mut self.writer, first)
                 )
             }
-            Turn::Member if self.sorts => Ok(()),
-            Turn::Member => straight!(self, self.formatter.begin_object_value(&mut self.writer)),
+            ExpectedEvent::Member if self.sorts => Ok(()),
+            ExpectedEvent::Member => straight!(
+                self,
+                self.formatter.begin_object_value(&mut self.writer)
+            ),
             _ => Ok(()),
         }
     }
 
     // What is written after a value.
     #[inline(always)]
-    pub(super) fn value_end_straight(&mut self) -> Step
+    pub(super) fn value_end_straight(&mut self) -> SerializerResult
         requires goes { self.old.failed ≡ None }
         requires straight { self.old.objects.items ≡ [] }
         ensures { StepsBy W.state self.old self.new (value_ended F.form) result }
     {
         match self.opened.last() {
             None => {
-                self.turn = Turn::Done;
+                self.turn = ExpectedEvent::Done;
                 Ok(())
             }
             Some(Kind::Array) => {
-                self.turn = Turn::Element(false);
+                self.turn = ExpectedEvent::Element(false);
                 self.end_element_straight()
             }
             Some(Kind::Object) => {
-                self.turn = Turn::Key(false);
+                self.turn = ExpectedEvent::Key(false);
                 if self.sorts {
                     Ok(())
                 } else {

@@ -5,8 +5,8 @@ ghost use Rattle.json_derive.specs.Fields.{field_datum, or_default, read_struct 
 
 use super::{Account, Customer};
 use json_derive::{
-    Builder, DeserializeFrom, ErrorCode, Events, Field, KeyRoom, Lent, Result, Serialize, Tokens,
-    find_struct, give_fields, read_struct, refusal, required,
+    Builder, DeserializeFrom, ErrorCode, Events, Field, InputStr, KeyRoom, Result, Serialize,
+    Tokens, error_without_place, read_struct, required, serialize_fields, try_read_struct,
 };
 use std::alloc::Global;
 
@@ -18,7 +18,7 @@ struct CustomerBuilder {
     phones: Option<Vec<String>>,
 }
 
-impl<S: Lent> Builder<S> for CustomerBuilder {
+impl<S: InputStr> Builder<S> for CustomerBuilder {
     type Built = Customer;
 
     ghost shape = { record {
@@ -79,7 +79,7 @@ impl<S: Lent> Builder<S> for CustomerBuilder {
     }
 }
 
-impl<S: Lent> DeserializeFrom<S> for Customer {
+impl<S: InputStr> DeserializeFrom<S> for Customer {
     ghost datum = { λ v. struct_datum ⟦<CustomerBuilder as Builder<S>>⟧.shape (⟦<CustomerBuilder as Builder<S>>⟧.values v) };
 
     ghost from_tree = { spec_read_struct ⟦<CustomerBuilder as Builder<S>>⟧.shape };
@@ -88,8 +88,8 @@ impl<S: Lent> DeserializeFrom<S> for Customer {
         read_struct::<S, CustomerBuilder, T>(alloc, tokens)
     }
 
-    fn found<T: Tokens<S>>(alloc: Global, tokens: &mut T) -> Result<Option<Customer>> {
-        find_struct::<S, CustomerBuilder, T>(alloc, tokens)
+    fn try_deserialize<T: Tokens<S>>(alloc: Global, tokens: &mut T) -> Result<Option<Customer>> {
+        try_read_struct::<S, CustomerBuilder, T>(alloc, tokens)
     }
 }
 
@@ -113,7 +113,7 @@ impl Serialize for Customer {
                 },
             ),
         );
-        give_fields(&fields, out)
+        serialize_fields(&fields, out)
     }
 
     fn key<'k>(&'k self, room: &'k mut KeyRoom) -> Option<&'k str> {
@@ -132,7 +132,7 @@ struct AccountBuilder {
     note: Option<Option<String>>,
 }
 
-impl<S: Lent> Builder<S> for AccountBuilder {
+impl<S: InputStr> Builder<S> for AccountBuilder {
     type Built = Account;
 
     ghost shape = { record {
@@ -193,7 +193,7 @@ impl<S: Lent> Builder<S> for AccountBuilder {
             }
             _ => {
                 tokens.skip()?;
-                return Err(refusal(ErrorCode::TypeUnmatched));
+                return Err(error_without_place(ErrorCode::TypeUnmatched));
             }
         }
         Ok(())
@@ -229,7 +229,7 @@ impl<S: Lent> Builder<S> for AccountBuilder {
     }
 }
 
-impl<S: Lent> DeserializeFrom<S> for Account {
+impl<S: InputStr> DeserializeFrom<S> for Account {
     ghost datum = { λ v. struct_datum ⟦<AccountBuilder as Builder<S>>⟧.shape (⟦<AccountBuilder as Builder<S>>⟧.values v) };
 
     ghost from_tree = { spec_read_struct ⟦<AccountBuilder as Builder<S>>⟧.shape };
@@ -238,8 +238,8 @@ impl<S: Lent> DeserializeFrom<S> for Account {
         read_struct::<S, AccountBuilder, T>(alloc, tokens)
     }
 
-    fn found<T: Tokens<S>>(alloc: Global, tokens: &mut T) -> Result<Option<Account>> {
-        find_struct::<S, AccountBuilder, T>(alloc, tokens)
+    fn try_deserialize<T: Tokens<S>>(alloc: Global, tokens: &mut T) -> Result<Option<Account>> {
+        try_read_struct::<S, AccountBuilder, T>(alloc, tokens)
     }
 }
 
@@ -275,7 +275,7 @@ impl Serialize for Account {
                 ),
             ),
         );
-        give_fields(&fields, out)
+        serialize_fields(&fields, out)
     }
 
     fn key<'k>(&'k self, room: &'k mut KeyRoom) -> Option<&'k str> {

@@ -4,13 +4,13 @@ ghost use Rattle.json_grammar.specs.Grammar.{boolean_bytes};
 ghost use Rattle.json_text.specs.declared.event.Event.TheVariants as Event;
 ghost use Rattle.json_text.specs.Literals.{WordTo};
 ghost use Rattle.json_text.specs.NextLiterals.{LiteralNext};
-ghost use Rattle.json_text.specs.Parsing.{SameInput, IsWhole, Goes, IsTight, ReadsWholeOnSome};
+ghost use Rattle.json_text.specs.Parsing.{SameInput, IsWhole, AdvancesTo, IsTight, ReadsWholeOnSome};
 
+use crate::next_parts::next_part;
 use crate::parser::Parser;
 use crate::parser::expected::takes_value;
 use crate::parser::literals::word_is;
-use crate::spot::ready;
-use json_grammar::Spot;
+use json_grammar::ExpectedPart;
 
 /// Returns whether `true` is at `from`, by four comparisons without a branch.
 #[inline(always)]
@@ -76,7 +76,7 @@ impl<'a> Parser<'a> {
         requires inside { ¬ (IsWhole self.old) }
         ensures same { SameInput self.old self.new }
         ensures failure { self.new.failure ≡ None }
-        ensures ok { IfSome result (λ b. Goes self.old (Event.Bool b) self.new) }
+        ensures ok { IfSome result (λ b. AdvancesTo self.old (Event.Bool b) self.new) }
         ensures tight { IfSome result (λ b. IsTight self.old (Event.Bool b) self.new) }
         ensures reads { ReadsWholeOnSome self.new result }
         ensures kept { result ≡ None → self.new ≡ self.old }
@@ -84,19 +84,19 @@ impl<'a> Parser<'a> {
         ensures none { result ≡ None → (b : Bool) → ¬ (LiteralNext self.old (boolean_bytes b)) }
     {
         let bytes = self.rest.as_bytes();
-        let stand = match ready(bytes, self.at, self.spot, &self.kinds) {
-            Ok(stand) => stand,
+        let part_start = match next_part(bytes, self.at, self.expected, &self.kinds) {
+            Ok(part_start) => part_start,
             Err(_) => return None,
         };
-        if !takes_value(stand.spot) {
+        if !takes_value(part_start.expected) {
             return None;
         }
-        let value = match boolean_at(bytes, stand.at) {
+        let value = match boolean_at(bytes, part_start.at) {
             Some(value) => value,
             None => return None,
         };
-        self.at = stand.at + boolean_len(value);
-        self.spot = Spot::Done;
+        self.at = part_start.at + boolean_len(value);
+        self.expected = ExpectedPart::Done;
         Some(value)
     }
 }

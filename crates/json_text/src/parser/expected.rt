@@ -3,16 +3,16 @@ ghost use Rattle.std.specs.Prelude.{◌≡◌, ◌≤◌, ◌↔◌, None, true,
 ghost use Rattle.std.specs.Str.{all_ascii_digits};
 ghost use Rattle.std.specs.Str.Parse.{digits_value};
 ghost use Rattle.json_text.specs.declared.event.Event.TheVariants as Event;
-ghost use Rattle.json_text.specs.Parsing.{SameInput, IsWhole, Goes, IsTight, ReadsWholeOnSome};
+ghost use Rattle.json_text.specs.Parsing.{SameInput, IsWhole, AdvancesTo, IsTight, ReadsWholeOnSome};
 ghost use Rattle.json_text.specs.Nexts.{IntegerNext, TextNext, NameNext};
 ghost use Rattle.json_grammar.specs.Place.{TakesValue, TakesKey};
 
 use crate::integer::integer_at;
+use crate::next_parts::next_part;
 use crate::parser::Parser;
 use crate::span::Span;
-use crate::spot::ready;
 use crate::token::string_at;
-use json_grammar::Spot;
+use json_grammar::ExpectedPart;
 use json_scan::byte_is;
 
 /// A number that is an integer by value, with its literal.
@@ -33,22 +33,22 @@ pub struct UnsignedInteger<'a> {
 
 /// Whether a value may begin.
 #[inline(always)]
-pub(crate) fn takes_value(spot: Spot) -> bool
-    ensures { IsTrue result ↔ TakesValue spot }
+pub(crate) fn takes_value(expected: ExpectedPart) -> bool
+    ensures { IsTrue result ↔ TakesValue expected }
 {
-    match spot {
-        Spot::Value | Spot::First => true,
+    match expected {
+        ExpectedPart::Value | ExpectedPart::First => true,
         _ => false,
     }
 }
 
 /// Whether a name may begin.
 #[inline(always)]
-fn takes_key(spot: Spot) -> bool
-    ensures { IsTrue result ↔ TakesKey spot }
+fn takes_key(expected: ExpectedPart) -> bool
+    ensures { IsTrue result ↔ TakesKey expected }
 {
-    match spot {
-        Spot::Key | Spot::KeyOrEnd => true,
+    match expected {
+        ExpectedPart::Key | ExpectedPart::KeyOrEnd => true,
         _ => false,
     }
 }
@@ -72,7 +72,7 @@ impl<'a> Parser<'a> {
         requires inside { ¬ (IsWhole self.old) }
         ensures same { SameInput self.old self.new }
         ensures failure { self.new.failure ≡ None }
-        ensures ok { IfSome result (λ n. Goes self.old (Event.Number n.literal) self.new) }
+        ensures ok { IfSome result (λ n. AdvancesTo self.old (Event.Number n.literal) self.new) }
         ensures tight { IfSome result (λ n. IsTight self.old (Event.Number n.literal) self.new) }
         ensures digits { IfSome result (λ n. (all_ascii_digits n.literal.now ≡ true)
             × (length n.literal.now ≤ 19)) }
@@ -84,14 +84,14 @@ impl<'a> Parser<'a> {
         ensures none { result ≡ None → ¬ (IntegerNext self.old most) }
     {
         let bytes = self.rest.as_bytes();
-        let stand = match ready(bytes, self.at, self.spot, &self.kinds) {
-            Ok(stand) => stand,
+        let part_start = match next_part(bytes, self.at, self.expected, &self.kinds) {
+            Ok(part_start) => part_start,
             Err(_) => return None,
         };
-        if !takes_value(stand.spot) {
+        if !takes_value(part_start.expected) {
             return None;
         }
-        let digits = match integer_at(bytes, stand.at) {
+        let digits = match integer_at(bytes, part_start.at) {
             Some(digits) => digits,
             None => return None,
         };
@@ -99,9 +99,9 @@ impl<'a> Parser<'a> {
             return None;
         }
         self.at = digits.end;
-        self.spot = Spot::Done;
+        self.expected = ExpectedPart::Done;
         Some(UnsignedInteger {
-            literal: &self.rest[stand.at..digits.end],
+            literal: &self.rest[part_start.at..digits.end],
             value: digits.value,
         })
     }
@@ -115,7 +115,7 @@ impl<'a> Parser<'a> {
         requires inside { ¬ (IsWhole self.old) }
         ensures same { SameInput self.old self.new }
         ensures failure { self.new.failure ≡ None }
-        ensures ok { IfSome result (λ s. Goes self.old (Event.Str s) self.new) }
+        ensures ok { IfSome result (λ s. AdvancesTo self.old (Event.Str s) self.new) }
         ensures tight { IfSome result (λ s. IsTight self.old (Event.Str s) self.new) }
         ensures reads { ReadsWholeOnSome self.new result }
         ensures kept { result ≡ None → self.new ≡ self.old }
@@ -123,19 +123,19 @@ impl<'a> Parser<'a> {
         ensures none { result ≡ None → ¬ (TextNext self.old) }
     {
         let bytes = self.rest.as_bytes();
-        let stand = match ready(bytes, self.at, self.spot, &self.kinds) {
-            Ok(stand) => stand,
+        let part_start = match next_part(bytes, self.at, self.expected, &self.kinds) {
+            Ok(part_start) => part_start,
             Err(_) => return None,
         };
-        if !takes_value(stand.spot) || !byte_is(bytes, stand.at, b'"') {
+        if !takes_value(part_start.expected) || !byte_is(bytes, part_start.at, b'"') {
             return None;
         }
-        let quote = match string_at(self.rest, stand.at, self.lossy) {
+        let quote = match string_at(self.rest, part_start.at, self.lossy) {
             Ok(quote) => quote,
             Err(_) => return None,
         };
         self.at = quote.end;
-        self.spot = Spot::Done;
+        self.expected = ExpectedPart::Done;
         Some(quote.span)
     }
 
@@ -147,7 +147,7 @@ impl<'a> Parser<'a> {
         requires inside { ¬ (IsWhole self.old) }
         ensures same { SameInput self.old self.new }
         ensures failure { self.new.failure ≡ None }
-        ensures ok { IfSome result (λ s. Goes self.old (Event.Key s) self.new) }
+        ensures ok { IfSome result (λ s. AdvancesTo self.old (Event.Key s) self.new) }
         ensures tight { IfSome result (λ s. IsTight self.old (Event.Key s) self.new) }
         ensures reads { ReadsWholeOnSome self.new result }
         ensures kept { result ≡ None → self.new ≡ self.old }
@@ -155,19 +155,19 @@ impl<'a> Parser<'a> {
         ensures none { result ≡ None → ¬ (NameNext self.old) }
     {
         let bytes = self.rest.as_bytes();
-        let stand = match ready(bytes, self.at, self.spot, &self.kinds) {
-            Ok(stand) => stand,
+        let part_start = match next_part(bytes, self.at, self.expected, &self.kinds) {
+            Ok(part_start) => part_start,
             Err(_) => return None,
         };
-        if !takes_key(stand.spot) || !byte_is(bytes, stand.at, b'"') {
+        if !takes_key(part_start.expected) || !byte_is(bytes, part_start.at, b'"') {
             return None;
         }
-        let quote = match string_at(self.rest, stand.at, self.lossy) {
+        let quote = match string_at(self.rest, part_start.at, self.lossy) {
             Ok(quote) => quote,
             Err(_) => return None,
         };
         self.at = quote.end;
-        self.spot = Spot::Colon;
+        self.expected = ExpectedPart::Colon;
         Some(quote.span)
     }
 }

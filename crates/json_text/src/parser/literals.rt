@@ -4,14 +4,14 @@ ghost use Rattle.json_grammar.specs.Grammar.{null_bytes};
 ghost use Rattle.json_text.specs.declared.event.Event.TheVariants as Event;
 ghost use Rattle.json_text.specs.Literals.{WordTo};
 ghost use Rattle.json_text.specs.NextLiterals.{LiteralNext};
-ghost use Rattle.json_text.specs.Parsing.{SameInput, IsWhole, Goes, IsTight, HasRead};
+ghost use Rattle.json_text.specs.Parsing.{SameInput, IsWhole, AdvancesTo, IsTight, HasRead};
 ghost use Rattle.json_text.specs.Tokens.{WordOf};
 
 use crate::event::Event;
+use crate::next_parts::next_part;
 use crate::parser::Parser;
 use crate::parser::expected::takes_value;
-use crate::spot::ready;
-use json_grammar::Spot;
+use json_grammar::ExpectedPart;
 
 /// Returns whether the literal is at `from`.
 #[inline(always)]
@@ -35,25 +35,25 @@ impl<'a> Parser<'a> {
         requires word { WordOf event word.now }
         ensures same { SameInput self.old self.new }
         ensures failure { self.new.failure ≡ None }
-        ensures ok { result ≡ true → Goes self.old event.entry self.new }
+        ensures ok { result ≡ true → AdvancesTo self.old event.entry self.new }
         ensures tight { result ≡ true → IsTight self.old event.entry self.new }
         ensures reads { result ≡ true → IsWhole self.new → HasRead self.new }
         ensures kept { result ≡ false → self.new ≡ self.old }
         ensures exactly { IsTrue result ↔ LiteralNext self.old word.now }
     {
         let bytes = self.rest.as_bytes();
-        let stand = match ready(bytes, self.at, self.spot, &self.kinds) {
-            Ok(stand) => stand,
+        let part_start = match next_part(bytes, self.at, self.expected, &self.kinds) {
+            Ok(part_start) => part_start,
             Err(_) => return false,
         };
-        if !takes_value(stand.spot) {
+        if !takes_value(part_start.expected) {
             return false;
         }
-        if !word_is(bytes, stand.at, word) {
+        if !word_is(bytes, part_start.at, word) {
             return false;
         }
-        self.at = stand.at + word.len();
-        self.spot = Spot::Done;
+        self.at = part_start.at + word.len();
+        self.expected = ExpectedPart::Done;
         true
     }
 
@@ -75,7 +75,7 @@ impl<'a> Parser<'a> {
         requires inside { ¬ (IsWhole self.old) }
         ensures same { SameInput self.old self.new }
         ensures failure { self.new.failure ≡ None }
-        ensures ok { result ≡ true → Goes self.old Event.Null self.new }
+        ensures ok { result ≡ true → AdvancesTo self.old Event.Null self.new }
         ensures tight { result ≡ true → IsTight self.old Event.Null self.new }
         ensures reads { result ≡ true → IsWhole self.new → HasRead self.new }
         ensures kept { result ≡ false → self.new ≡ self.old }

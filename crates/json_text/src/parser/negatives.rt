@@ -4,13 +4,13 @@ ghost use Rattle.std.specs.Str.{all_ascii_digits};
 ghost use Rattle.std.specs.Str.Parse.{digits_value};
 ghost use Rattle.json_text.specs.declared.event.Event.TheVariants as Event;
 ghost use Rattle.json_text.specs.NextLiterals.{NegativeNext};
-ghost use Rattle.json_text.specs.Parsing.{SameInput, IsWhole, Goes, IsTight, ReadsWholeOnSome};
+ghost use Rattle.json_text.specs.Parsing.{SameInput, IsWhole, AdvancesTo, IsTight, ReadsWholeOnSome};
 
 use crate::integer::negative_at;
+use crate::next_parts::next_part;
 use crate::parser::Parser;
 use crate::parser::expected::takes_value;
-use crate::spot::ready;
-use json_grammar::Spot;
+use json_grammar::ExpectedPart;
 
 /// An integer below 0 by its magnitude, with its literal.
 ///
@@ -47,7 +47,7 @@ impl<'a> Parser<'a> {
         requires inside { ¬ (IsWhole self.old) }
         ensures same { SameInput self.old self.new }
         ensures failure { self.new.failure ≡ None }
-        ensures ok { IfSome result (λ n. Goes self.old (Event.Number n.literal) self.new) }
+        ensures ok { IfSome result (λ n. AdvancesTo self.old (Event.Number n.literal) self.new) }
         ensures tight { IfSome result (λ n. IsTight self.old (Event.Number n.literal) self.new) }
         ensures minus { IfSome result (λ n. get_or n.literal.now 0 0 ≡ 45) }
         ensures digits { IfSome result (λ n. (all_ascii_digits (drop 1 n.literal.now) ≡ true)
@@ -61,14 +61,14 @@ impl<'a> Parser<'a> {
         ensures none { result ≡ None → ¬ (NegativeNext self.old least) }
     {
         let bytes = self.rest.as_bytes();
-        let stand = match ready(bytes, self.at, self.spot, &self.kinds) {
-            Ok(stand) => stand,
+        let part_start = match next_part(bytes, self.at, self.expected, &self.kinds) {
+            Ok(part_start) => part_start,
             Err(_) => return None,
         };
-        if !takes_value(stand.spot) {
+        if !takes_value(part_start.expected) {
             return None;
         }
-        let digits = match negative_at(bytes, stand.at) {
+        let digits = match negative_at(bytes, part_start.at) {
             Some(digits) => digits,
             None => return None,
         };
@@ -79,9 +79,9 @@ impl<'a> Parser<'a> {
             return None;
         }
         self.at = digits.end;
-        self.spot = Spot::Done;
+        self.expected = ExpectedPart::Done;
         Some(NegativeInteger {
-            literal: &self.rest[stand.at..digits.end],
+            literal: &self.rest[part_start.at..digits.end],
             magnitude: digits.value,
         })
     }

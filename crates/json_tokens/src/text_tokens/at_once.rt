@@ -1,11 +1,11 @@
 // Tokens that are taken at once, and those whose events wait.
 ghost use Rattle.std.specs.Prelude.{◌≡◌, ◌<◌, ◌≤◌, ◌^◌, true, false, None, IfSome, IsSome, MatchOption};
 ghost use Rattle.json_grammar.specs.Tree.{null, boolean, begin as begin_token, end as end_token};
-ghost use Rattle.json_tokens.specs.Stand.{NotWhole, TakesOne, TakesTree, TakesInteger, TakesNegative, TakesText, TakesKeyPiece};
+ghost use Rattle.json_tokens.specs.TokensStates.{NotWhole, TakesOne, TakesTree, TakesInteger, TakesNegative, TakesText, TakesKeyPiece};
 ghost use Rattle.json_tokens.specs.Pieces.{Says};
 ghost use Rattle.json_tokens.specs.Text.{text_taken, text_tokens_state};
 
-use crate::ahead::piece;
+use crate::ahead::plain_piece;
 use crate::piece::Piece;
 use crate::text_tokens::TextTokens;
 use crate::token::begin_kind;
@@ -42,7 +42,7 @@ impl<'a> TextTokens<'a> {
         match ahead.event {
             Event::Str(span) => {
                 self.ahead = None;
-                Some(piece(span))
+                Some(plain_piece(span))
             }
             _ => None,
         }
@@ -162,7 +162,7 @@ impl<'a> TextTokens<'a> {
             return self.waiting_text();
         }
         if let Some(span) = self.parser.next_text() {
-            return Some(piece(span));
+            return Some(plain_piece(span));
         }
         None
     }
@@ -181,7 +181,7 @@ impl<'a> TextTokens<'a> {
             return None;
         }
         if let Some(span) = self.parser.next_key() {
-            return Some(piece(span));
+            return Some(plain_piece(span));
         }
         None
     }

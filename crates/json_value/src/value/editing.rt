@@ -6,13 +6,13 @@ ghost use Rattle.json_value.specs.Edits.{step_of, edit_path, edit_of, change_of,
 ghost use Rattle.json_value.specs.Places.{value_origin};
 ghost use Rattle.json_value.specs.Touched.{ArrayTouched, ObjectTouched, Inserts, Pushes, RemovalTouches, ChangeTouches, Touches, Same, ArrayKept, ObjectKept, RemovalKeeps, ChangeKeeps, KeepsOnRefusal};
 
-use crate::container_mut::{not_found, type_unmatched};
+use crate::container_mut::{not_found_error, type_unmatched_error};
 use crate::pair::{insert_pair, remove_pairs};
 use crate::path::{Edit, PointerNode};
 use crate::places::Places;
 use crate::text::Text;
 use crate::value::Value;
-use json_text::Result;
+use json_io::Result;
 use std::alloc::Global;
 
 impl Value {
@@ -32,7 +32,7 @@ impl Value {
                 let pairs = object.pairs_mut(alloc)?;
                 insert_pair(pairs, alloc, key, value)
             }
-            None => Err(type_unmatched()),
+            None => Err(type_unmatched_error()),
         }
     }
 
@@ -52,7 +52,7 @@ impl Value {
                 list.push(value)?;
                 Ok(())
             }
-            None => Err(type_unmatched()),
+            None => Err(type_unmatched_error()),
         }
     }
 
@@ -70,10 +70,10 @@ impl Value {
                     if remove_pairs(pairs, key.as_str()) {
                         Ok(())
                     } else {
-                        Err(not_found())
+                        Err(not_found_error())
                     }
                 }
-                None => Err(type_unmatched()),
+                None => Err(type_unmatched_error()),
             },
             PointerNode::Index(i) => match self.array_mut() {
                 Some(array) => {
@@ -82,10 +82,10 @@ impl Value {
                         let _ = list.remove(*i);
                         Ok(())
                     } else {
-                        Err(not_found())
+                        Err(not_found_error())
                     }
                 }
-                None => Err(type_unmatched()),
+                None => Err(type_unmatched_error()),
             },
         }
     }

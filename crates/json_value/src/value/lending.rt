@@ -15,13 +15,13 @@ ghost use Rattle.json_value.specs.declared.value.Value.{Array as ArrayValue, Obj
 ghost use Rattle.json_io.specs.Errors.{OnlyNoMemory};
 
 use crate::array::Array;
-use crate::container_mut::{append_of, insert_of, step_of, type_unmatched};
+use crate::container_mut::{append_of, insert_of, step_of, type_unmatched_error};
 use crate::index::Index;
 use crate::object::Object;
 use crate::path::PointerNode;
 use crate::places::{none_if_missing, reach_in};
 use crate::value::Value;
-use json_text::{ErrorCode, Result};
+use json_io::{ErrorCode, Result};
 use std::alloc::Global;
 
 // An array, or none where there was no array; only want of memory stays an error.
@@ -59,7 +59,7 @@ impl Value {
         ensures* writes_back { sem 𝓛 (LendsPlace self.entry result
             (λ x w n. PutsAtPath (steps_of path.now) x w self.old n)
             (PutsNothing (steps_of path.now) self.old)) }
-        ensures stands { IfOk result (λ o. option_map (λ x. tree_of x.now) o
+        ensures leads { IfOk result (λ o. option_map (λ x. tree_of x.now) o
             ≡ tree_at (steps_of path.now) (tree_of self.old)) }
         ensures only { OnlyNoMemory result }
     {
@@ -74,7 +74,7 @@ impl Value {
         ensures* writes_back { sem 𝓛 (LendsPlace self.entry result
             (λ x w n. PutsAtPath (I.step index ∷ []) x w self.old n)
             (PutsNothing (I.step index ∷ []) self.old)) }
-        ensures stands { IfOk result (λ o. option_map (λ x. tree_of x.now) o
+        ensures leads { IfOk result (λ o. option_map (λ x. tree_of x.now) o
             ≡ child (I.step index) (tree_of self.old)) }
         ensures only { OnlyNoMemory result }
     {
@@ -119,7 +119,7 @@ impl Value {
                 array.make_owned(alloc)?;
                 Ok(array)
             }
-            None => Err(type_unmatched()),
+            None => Err(type_unmatched_error()),
         }
     }
 
@@ -136,7 +136,7 @@ impl Value {
                 object.make_owned(alloc)?;
                 Ok(object)
             }
-            None => Err(type_unmatched()),
+            None => Err(type_unmatched_error()),
         }
     }
 

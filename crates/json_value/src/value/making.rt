@@ -10,7 +10,7 @@ ghost use Rattle.json_value.specs.Denotes.{tree_of, pair_of};
 ghost use Rattle.json_value.specs.Doubles.{double_in};
 ghost use Rattle.json_value.specs.Places.{places_in};
 ghost use Rattle.json_value.specs.Rows.{owned};
-ghost use Rattle.json_value.specs.Spots.{ContainerIsPlace};
+ghost use Rattle.json_value.specs.Positions.{ContainerIsPlace};
 ghost use Rattle.json_value.specs.declared.value.Value.{Array as ArrayValue, Null};
 ghost use Rattle.std.specs.Char.{encode_utf8};
 ghost use Rattle.json_value.specs.Made.{IsArrayOf, IsObjectOf};
@@ -25,8 +25,8 @@ use crate::literal::Literal;
 use crate::pair::{Pair, put_pair};
 use crate::text::{Text, TextForm};
 use crate::value::Value;
+use json_io::Result;
 use json_number::{Number, RawNumber};
-use json_text::Result;
 use std::alloc::Global;
 
 impl Value {

@@ -1,8 +1,8 @@
 // What is reported of arguments, and what those that are valid ask for.
 use crate::arguments::rows::ROWS;
 use json_arguments::{
-    Arguments, ArgumentsError, OperandKind, Problem, Refusal, Verb, arguments_report, edits_of,
-    file_report, read_arguments, read_operand,
+    Arguments, ArgumentsError, OperandError, OperandKind, Problem, Verb, arguments_report,
+    operand_file_report, read_arguments, read_operand, requested_edits,
 };
 use json_command::rows::differing_rows;
 use json_text::{FakeSource, Result, VecSink, Words, put_all};
@@ -49,7 +49,7 @@ fn words_of(alloc: Global, all: &[&str]) -> Result<Words> {
 // Whether arguments have two files and one edit, a push of a value.
 fn ask_for_a_push(alloc: Global, arguments: Arguments<'_>) -> bool {
     let files = arguments.files.as_slice() == ["a.json", "b.json"].as_slice();
-    match edits_of(alloc, arguments.verb, arguments.operands) {
+    match requested_edits(alloc, arguments.verb, arguments.operands) {
         Ok(edits) => files && matches!(edits.as_slice(), [Edit::Push { .. }]),
         Err(_) => false,
     }
@@ -84,7 +84,7 @@ fn report_begins(alloc: Global, problem: &Problem, expected: &str) -> bool {
     let Ok(words) = words_of(alloc, &["edit"]) else {
         return false;
     };
-    match file_report(alloc, &words, "e.json", problem) {
+    match operand_file_report(alloc, &words, "e.json", problem) {
         Ok(report) => report.as_str().starts_with(expected),
         Err(_) => false,
     }
@@ -92,7 +92,7 @@ fn report_begins(alloc: Global, problem: &Problem, expected: &str) -> bool {
 
 fn is_reported(alloc: Global, text: &str, expected: &str) -> bool {
     match read_operand(alloc, OperandKind::Edits, text) {
-        Err(Refusal::Invalid(problem)) => report_begins(alloc, &problem, expected),
+        Err(OperandError::Invalid(problem)) => report_begins(alloc, &problem, expected),
         _ => false,
     }
 }

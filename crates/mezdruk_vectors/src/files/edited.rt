@@ -1,6 +1,6 @@
 // Documents that are edited in the layout that they have.
 use crate::files::runs::compact;
-use json_files::{Document, EditAll, InputForm, edit_document};
+use json_files::{EditAll, InputForm, NamedDocument, edit_document};
 use json_text::VecSink;
 use json_value::{Edit, Path, PointerNode, Text, Value};
 use std::alloc::Global;
@@ -23,8 +23,10 @@ fn set_a(alloc: Global) -> Option<Edit> {
 
 // Whether the edit makes of the document of a row its text.
 fn holds(alloc: Global, edit: &[Edit], form: InputForm, row: &Row) -> bool {
-    let (Ok(document), Some(change)) = (Document::new(alloc, "f", row.input), EditAll::new(edit))
-    else {
+    let (Ok(document), Some(change)) = (
+        NamedDocument::new(alloc, "f", row.input),
+        EditAll::new(edit),
+    ) else {
         return false;
     };
     let mut job = compact(change);

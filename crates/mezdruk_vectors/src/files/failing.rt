@@ -1,6 +1,6 @@
 // Sinks that fail at each call in turn.
 use crate::files::runs::{Named, compact, documents_of, status_of};
-use json_files::{Document, Unchanged};
+use json_files::{NamedDocument, Unchanged};
 use json_text::{FakeSink, Result, Sink, VecSink};
 use std::alloc::Global;
 
@@ -47,7 +47,7 @@ const FOUR: &[Named] = &[
 // The status of a run that prints documents compact.
 fn print<K: Sink, E: Sink>(
     alloc: Global,
-    documents: &[Document],
+    documents: &[NamedDocument],
     sink: &mut K,
     errs: &mut E,
 ) -> u8 {
@@ -125,7 +125,7 @@ fn is_written(sink: &FakeSink<'_>, text: &str) -> bool {
 }
 
 // Whether a run has the right result where this call of the sink fails.
-fn fails_at_write(alloc: Global, documents: &[Document], row: &Write) -> bool {
+fn fails_at_write(alloc: Global, documents: &[NamedDocument], row: &Write) -> bool {
     let failing = [row.call];
     let mut sink = FakeSink::new(alloc, 1, &failing);
     let mut errs = VecSink::new(alloc);
@@ -151,7 +151,7 @@ fn a_sink_that_fails_at_each_call(rt: HostRuntime) {
 }
 
 // Whether a run has the right result where this call of the sink of errors fails.
-fn fails_at_report(alloc: Global, documents: &[Document], call: u64) -> bool {
+fn fails_at_report(alloc: Global, documents: &[NamedDocument], call: u64) -> bool {
     let failing = [call];
     let mut sink = VecSink::new(alloc);
     let mut errs = FakeSink::new(alloc, 1, &failing);

@@ -1,5 +1,5 @@
 // Edits at the places of pointers.
-use json_files::{Change, ChangeCode, ChangeError, EditAt};
+use json_files::{ChangeCode, ChangeError, EditAt, ValueChange};
 use json_fixtures::read;
 use json_patch::Pointer;
 use json_text::Result;

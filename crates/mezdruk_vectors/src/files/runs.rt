@@ -1,5 +1,5 @@
 // Runs over documents in memory.
-use json_files::{Change, Document, InputForm, Job, Unchanged, print_documents};
+use json_files::{InputForm, Job, NamedDocument, Unchanged, ValueChange, print_documents};
 use json_print::Style;
 use json_text::{Result, Rules, Sink, VecSink};
 use std::alloc::Global;
@@ -30,9 +30,9 @@ pub fn compact<C>(change: C) -> Job<'static, C> {
 }
 
 /// Returns the status of a run. The proof of a caller has none of its clauses to carry.
-pub fn status_of<C: Change, K: Sink, E: Sink>(
+pub fn status_of<C: ValueChange, K: Sink, E: Sink>(
     alloc: Global,
-    documents: &[Document],
+    documents: &[NamedDocument],
     job: &Job<'_, C>,
     sink: &mut K,
     errs: &mut E,
@@ -41,9 +41,9 @@ pub fn status_of<C: Change, K: Sink, E: Sink>(
 }
 
 /// Returns whether a run over documents has this outcome.
-pub fn come_to<C: Change>(
+pub fn come_to<C: ValueChange>(
     alloc: Global,
-    documents: &[Document],
+    documents: &[NamedDocument],
     job: &Job<'_, C>,
     outcome: &Outcome<'_>,
 ) -> bool {
@@ -56,20 +56,20 @@ pub fn come_to<C: Change>(
 }
 
 /// Returns whether a run over the document `f` of these bytes has this outcome.
-pub fn comes_to<C: Change>(
+pub fn comes_to<C: ValueChange>(
     alloc: Global,
     job: &Job<'_, C>,
     input: &[u8],
     outcome: &Outcome<'_>,
 ) -> bool {
-    match Document::new(alloc, "f", input) {
+    match NamedDocument::new(alloc, "f", input) {
         Ok(document) => come_to(alloc, &[document], job, outcome),
         Err(_) => false,
     }
 }
 
 /// Returns whether a run over the input of each row has its outcome.
-pub fn all_hold<C: Change>(alloc: Global, job: &Job<'_, C>, rows: &[Row]) -> bool {
+pub fn all_hold<C: ValueChange>(alloc: Global, job: &Job<'_, C>, rows: &[Row]) -> bool {
     for row in rows {
         if !comes_to(alloc, job, row.input, &row.outcome) {
             return false;
@@ -85,10 +85,10 @@ pub fn all_print(alloc: Global, form: InputForm, rows: &[Row]) -> bool {
     all_hold(alloc, &job, rows)
 }
 
-fn document_of(alloc: Global, named: &Named) -> Result<Document> {
+fn document_of(alloc: Global, named: &Named) -> Result<NamedDocument> {
     match named.bytes {
-        Some(bytes) => Document::new(alloc, named.name, bytes),
-        None => Ok(Document {
+        Some(bytes) => NamedDocument::new(alloc, named.name, bytes),
+        None => Ok(NamedDocument {
             name: String::from_str(alloc, named.name)?,
             bytes: None,
         }),
@@ -96,7 +96,7 @@ fn document_of(alloc: Global, named: &Named) -> Result<Document> {
 }
 
 /// Returns the documents of these names and bytes.
-pub fn documents_of(alloc: Global, all: &[Named]) -> Result<Vec<Document>> {
+pub fn documents_of(alloc: Global, all: &[Named]) -> Result<Vec<NamedDocument>> {
     let mut documents = Vec::new(alloc);
     for named in all {
         documents.push(document_of(alloc, named)?)?;

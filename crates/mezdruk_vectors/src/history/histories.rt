@@ -1,6 +1,6 @@
 // Worked examples of histories.
 use json_data::from_str;
-use json_history::{Call, Change, History, asked, make_calls};
+use json_history::{Call, Change, History, make_calls, requested_calls};
 use json_text::{ErrorCode, Place, Result, Words};
 use json_value::{Edit, Value};
 use std::alloc::Global;
@@ -38,7 +38,7 @@ enum Step {
 fn calls_of(alloc: Global, word: &str) -> Result<Vec<Call>> {
     let mut words = Words::new(alloc);
     words.push(word)?;
-    asked(alloc, &words)
+    requested_calls(alloc, &words)
 }
 
 // Makes the calls that a word spells.

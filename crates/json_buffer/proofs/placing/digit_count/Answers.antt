@@ -11,7 +11,7 @@ pub fours-preserved : goal.fours-preserved
 fours-preserved c = (omega (arith, c.fours.invariant.0, length_four c.fours.left c.fours-test.true (omega arith)), omega (arith, c.fours.invariant.1))
 
 pub overflow_add-result : goal.overflow_add-result
-overflow_add-result c = omega (arith, c.fours.invariant.0, c.few_digits.ensures, length-decimal-le 20 c.args.number (omega arith) (omega arith) (omega arith))
+overflow_add-result c = omega (arith, c.fours.invariant.0, c.few_digit_count.ensures, length-decimal-le 20 c.args.number (omega arith) (omega arith) (omega arith))
 
 pub returns-clause-few : goal.returns-clause-few
-returns-clause-few c = omega (arith, c.fours.invariant.0, c.few_digits.ensures, length-decimal-le 20 c.args.number (omega arith) (omega arith) (omega arith))
+returns-clause-few c = omega (arith, c.fours.invariant.0, c.few_digit_count.ensures, length-decimal-le 20 c.args.number (omega arith) (omega arith) (omega arith))

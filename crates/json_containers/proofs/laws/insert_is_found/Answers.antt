@@ -1,4 +1,4 @@
-use Rattle.json_containers.proofs.FoundBehind as proof
+use Rattle.json_containers.proofs.FoundAfter as proof
 use Rattle.json_containers.proofs.laws.insert_is_found.Goals as goal
 
 pub returns : goal.returns

@@ -1,4 +1,4 @@
-use Rattle.json_containers.proofs.FoundBehind as proof
+use Rattle.json_containers.proofs.FoundAfter as proof
 use Rattle.json_containers.proofs.laws.remove_leaves_none.Goals as goal
 
 pub returns : goal.returns

@@ -7,5 +7,5 @@ pub returns-clause-err : goal.returns-clause-err
 returns-clause-err g c =
     let f = g.T.DeserializeFrom.from_tree in
     IfErr-weaker c.from_slice.result _ _
-    (λ e h. inr (c.fill.new.room.items, c.in_ok-fill.ensures.bytes, subst (λ (b : List ℕ). TypedReadingFails 254 f b e.code e.place) c.as_slice.ensures.value h))
+    (λ e h. inr (c.read_source.new.room.items, c.in_ok-read_source.ensures.bytes, subst (λ (b : List ℕ). TypedReadingFails 254 f b e.code e.place) c.as_slice.ensures.value h))
     c.from_slice.ensures.err

@@ -7,7 +7,7 @@ use Rattle.json_data.proofs.integer_keys.key_whole.Goals as goal
 
 pub returns-then-not-is_number-clause-err : goal.returns-then-not-is_number-clause-err
 returns-then-not-is_number-clause-err g c = inr (
-  c.refusal.ensures,
+  c.error_without_place.ensures,
   λ s h.
       let e : c.as_str-literal.result.now ≡ s = c.as_str-literal.ensures.value ∙ sym (c.in_ok-text.ensures.ok s h) in
       no_number s (λ n. let x : true ≡ false = sym (c.is_number.ensures.1 (subst number (sym e) n)) ∙ c.if-not-is_number.true in absurd (cc)),

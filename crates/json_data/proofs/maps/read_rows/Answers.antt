@@ -6,7 +6,7 @@ use Rattle.json_data.specs.Reading.{gives}
 use Rattle.json_data.proofs.Pairs.{join_pairs, begun_pairs, ended_pairs, one_key, one_member, stop_key_of, stop_member, in_object_again}
 use Rattle.json_data.proofs.Rows.{rows_of, OfText, OfTexts, put-texts, rows-more, rows-stop_key, rows-stop_value, rows-put}
 use Rattle.json_data.proofs.Exits.{missed}
-use Rattle.json_tokens.proofs.Told.{known}
+use Rattle.json_tokens.proofs.KindTests.{known}
 use Rattle.json_data.proofs.maps.read_rows.Goals as goal
 
 pub each-init : goal.each-init
@@ -49,7 +49,7 @@ each-preserved g c =
     let en : c.insert.new.self.entries ≡ insert_entry g.K.Ord.cmp old c.in-Ok.key c.in-Ok-deserialize.item = search rules in (
       join_pairs i.0 (pair_and k.name r.tree no_pairs),
       λ a h. one_member (one_key (i.1 a h) k.takes) r.takes,
-      in_object_again _ _ _ k.name i.2 k.takes.moves.spot r.takes.moves.spot,
+      in_object_again _ _ _ k.name i.2 k.takes.moves.expected r.takes.moves.expected,
       rows-more g.K.FromKey.from_text g.V.DeserializeFrom.from_tree i.0 k.name r.tree (kd c.in-Ok.key) (vd c.in-Ok-deserialize.item) (rows_of kd vd old) i.3 (c.in-Ok.ensures.ok k.name k.said) r.answer
           ∙ ap (λ (rs : Rows). gives (rows_datum rs)) (sym (ap (rows_of kd vd) en ∙ rows-put g.K.Ord.cmp g.K.FromKey.from_text kd vd g.met.K.FromKey.orders old c.in-Ok.key c.in-Ok-deserialize.item t i.4)),
       subst (λ (es : List (g.row.K.Denot × g.row.V.Denot)). OfTexts g.K.FromKey.from_text kd es) (sym en) (put-texts g.K.Ord.cmp g.K.FromKey.from_text kd old c.in-Ok.key c.in-Ok-deserialize.item t i.4),

@@ -3,7 +3,7 @@ use Rattle.json_grammar.specs.Tree.{pairs, no_pairs, pair_and}
 use Rattle.json_data.proofs.Exits.{missed}
 use Rattle.json_data.proofs.Objects.{members-more, members-stop}
 use Rattle.json_data.proofs.Pairs.{join_pairs, begun_pairs, ended_pairs, one_key, one_member, stop_member, in_object_again}
-use Rattle.json_tokens.proofs.Told.{known}
+use Rattle.json_tokens.proofs.KindTests.{known}
 use Rattle.json_data.proofs.members.read_rest.Goals as goal
 
 pub each-init : goal.each-init
@@ -17,7 +17,7 @@ each-preserved g c =
     let r = c.in-Ok.ensures.ok k.name k.said in (
       join_pairs i.0 (pair_and k.name r.tree no_pairs),
       λ a h. one_member (one_key (i.1 a h) k.takes) r.takes,
-      in_object_again _ _ _ k.name i.2 k.takes.moves.spot r.takes.moves.spot,
+      in_object_again _ _ _ k.name i.2 k.takes.moves.expected r.takes.moves.expected,
       members-more s i.0 k.name r.tree _ (g.M.Members.so_far c.each.members) _ i.3 r.answer,
     )
 

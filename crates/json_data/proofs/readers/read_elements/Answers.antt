@@ -4,7 +4,7 @@ use Rattle.json_grammar.specs.Tree.{list, no_trees, tree_and}
 use Rattle.json_data.specs.Reading.{gives_all, as_list}
 use Rattle.json_data.proofs.Lists.{begun, ended, still_in, one_more, join, more-gives, stopped, in_array_again, still_array}
 use Rattle.json_data.proofs.Exits.{missed, stop_in, misses_stop}
-use Rattle.json_tokens.proofs.Told.{known}
+use Rattle.json_tokens.proofs.KindTests.{known}
 use Rattle.json_data.proofs.readers.read_elements.Goals as goal
 
 pub each-init : goal.each-init
@@ -24,7 +24,7 @@ each-preserved-in-Some g c =
     let e : c.push.new.self.items ≡ c.each.all.items ++ x ∷ [] = search rules in (
       join i.0 (tree_and r.tree no_trees),
       λ a h. one_more (i.1 a h) r.takes,
-      in_array_again _ _ i.2 r.takes.moves.spot,
+      in_array_again _ _ i.2 r.takes.moves.expected,
       more-gives g.V.DeserializeFrom.from_tree i.0 r.tree (map f c.each.all.items) (f x) i.3 r.answer
           ∙ ap gives_all (sym (ap (map f) e ∙ map-append f c.each.all.items (x ∷ []))),
     )
@@ -39,7 +39,7 @@ each-preserved g c =
     let e : c.push-in-Some-next.new.self.items ≡ c.each.all.items ++ x ∷ [] = search rules in (
       join i.0 (tree_and r.tree no_trees),
       λ a h. one_more (still_in s (i.1 a h)) r.takes,
-      in_array_again _ _ (still_array g.T.Tokens.stand s i.2) r.takes.moves.spot,
+      in_array_again _ _ (still_array g.T.Tokens.state s i.2) r.takes.moves.expected,
       more-gives g.V.DeserializeFrom.from_tree i.0 r.tree (map f c.each.all.items) (f x) i.3 r.answer
           ∙ ap gives_all (sym (ap (map f) e ∙ map-append f c.each.all.items (x ∷ []))),
     )

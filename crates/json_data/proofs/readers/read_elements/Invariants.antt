@@ -2,17 +2,17 @@ use Rattle.std.proofs.Common.{◌≡◌, map}
 use Rattle.json_grammar.specs.declared.Kind.TheVariants.{Array as array}
 use Rattle.json_grammar.specs.Tree.{Trees, begin}
 use Rattle.json_data.specs.Reading.{gives_all, each}
-use Rattle.json_tokens.specs.Spots.{InArray}
-use Rattle.json_tokens.specs.Stand.{TakesOne}
+use Rattle.json_tokens.specs.ExpectedTokens.{InArray}
+use Rattle.json_tokens.specs.TokensStates.{TakesOne}
 use Rattle.json_data.proofs.Lists.{InList}
 use Rattle.json_data.proofs.readers.read_elements.Given as goal
 
 -- the elements so far, from any place at which reading began
 abbrev pub invariant-each : goal.invariant-each
 invariant-each g l = (ts : Trees)
-    × ((a : _) → TakesOne g.T.Tokens.taken g.T.Tokens.stand a l.fn.tokens (begin array) → InList g.T.Tokens.taken g.T.Tokens.stand a l.tokens ts)
-    × InArray (g.T.Tokens.stand l.tokens).spot
+    × ((a : _) → TakesOne g.T.Tokens.taken g.T.Tokens.state a l.fn.tokens (begin array) → InList g.T.Tokens.taken g.T.Tokens.state a l.tokens ts)
+    × InArray (g.T.Tokens.state l.tokens).expected
     × (each g.V.DeserializeFrom.from_tree ts ≡ gives_all (map g.V.DeserializeFrom.datum l.all.items))
 
 abbrev pub decreases-each : goal.decreases-each
-decreases-each g l = (g.T.Tokens.stand l.tokens).left
+decreases-each g l = (g.T.Tokens.state l.tokens).left

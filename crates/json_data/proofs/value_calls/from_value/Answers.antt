@@ -1,7 +1,7 @@
 use Rattle.std.proofs.Common.{◌∙◌, Option, Some, IfSome, ap, subst}
 use Rattle.std.specs.Result.{IfOk}
 use Rattle.std.proofs.lemmas.Result.{MatchResult-weaker}
-use Rattle.json_value.specs.Sights.{Sight}
+use Rattle.json_value.specs.ViewTargets.{ViewTarget}
 use Rattle.json_tokens.specs.Values.{at_begin, IsMadeOf}
 use Rattle.json_data.proofs.ValueCalls.{wants_value, read_value, value_fails}
 use Rattle.json_data.proofs.value_calls.from_value.Goals as goal
@@ -21,5 +21,5 @@ returns-clause-err g c =
 
 pub returns-clause-place : goal.returns-clause-place
 returns-clause-place g c =
-    subst (λ (x : Option Sight). IfOk c.deserialize.result (g.T.DeserializeFrom.placed (λ v. IfSome x (λ s. IsMadeOf s v))))
-    (c.new-tokens.ensures.sight ∙ ap Some c.view.ensures.sight) c.deserialize.ensures.place
+    subst (λ (x : Option ViewTarget). IfOk c.deserialize.result (g.T.DeserializeFrom.placed (λ v. IfSome x (λ s. IsMadeOf s v))))
+    (c.new-tokens.ensures.target ∙ ap Some c.view.ensures.target) c.deserialize.ensures.place

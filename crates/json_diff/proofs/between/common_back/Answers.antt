@@ -14,7 +14,7 @@ returns-then-not-branch-clause-ok c =
     let long : length (map seen from) ≡ length from = length-map from seen in
     let others : length (map seen to) ≡ length to = length-map to seen in
     back_stop (map seen from) (map seen to) n (seen c.index-from-from.result) (seen c.index-to-to.result) c.loop-n.invariant (omega arith) (omega arith) (reversed_item seen from n c.index-from-from.result first c.index-from-from.is)
-    (reversed_item seen to n c.index-to-to.result second c.index-to-to.is) (sym c.if-not-branch.true ∙ c.in_ok-are_same.ensures.ok)
+    (reversed_item seen to n c.index-to-to.result second c.index-to-to.is) (sym c.if-not-branch.true ∙ c.in_ok-are_equal.ensures.ok)
 
 pub loop-n-preserved : goal.loop-n-preserved
 loop-n-preserved c =
@@ -26,7 +26,7 @@ loop-n-preserved c =
     let long : length (map seen from) ≡ length from = length-map from seen in
     let others : length (map seen to) ≡ length to = length-map to seen in
     back_more (map seen from) (map seen to) n (seen c.index-from-from.result) (seen c.index-to-to.result) c.loop-n.invariant (omega arith) (omega arith) (reversed_item seen from n c.index-from-from.result first c.index-from-from.is)
-    (reversed_item seen to n c.index-to-to.result second c.index-to-to.is) (sym c.if-not-branch.false ∙ c.in_ok-are_same.ensures.ok)
+    (reversed_item seen to n c.index-to-to.result second c.index-to-to.is) (sym c.if-not-branch.false ∙ c.in_ok-are_equal.ensures.ok)
 
 pub returns-clause-ok : goal.returns-clause-ok
 returns-clause-ok c =

@@ -13,11 +13,11 @@ use Rattle.json_diff.proofs.MergeDiffViews.{changes_after}
 use Rattle.json_patch.proofs.MergedMembers.{fewer_nodes}
 use Rattle.json_diff.proofs.merge_between.+merge_diff.Goals as goal
 
-pub differing-object_patch-requires : goal.differing-object_patch-requires
-differing-object_patch-requires t c = (omega (arith, ap nodes (object_seen (seen c.args.new) _ c.in-Some.ensures.trees)), tt)
+pub changed_member-object_patch-requires : goal.changed_member-object_patch-requires
+changed_member-object_patch-requires t c = (omega (arith, ap nodes (object_seen (seen c.args.new) _ c.in-Some.ensures.trees)), tt)
 
-pub differing-returns-in-Some-clause-ok : goal.differing-returns-in-Some-clause-ok
-differing-returns-in-Some-clause-ok t c =
+pub changed_member-returns-in-Some-clause-ok : goal.changed_member-returns-in-Some-clause-ok
+changed_member-returns-in-Some-clause-ok t c =
     let qs = list_pairs (members_seen c.in-Some.members) in
     let was = ap (differing_patch (tree_or_null (option_map seen c.args.old))) (object_seen (seen c.args.new) (members_seen c.in-Some.members) c.in-Some.ensures.trees) in
     IfOk-weaker c.object_patch.result _ _ (λ o e. was ∙ ap (λ (ps : Pairs). object_patch ps qs (changes ps qs)) (sym c.object_in.ensures) ∙ e) c.object_patch.ensures.ok

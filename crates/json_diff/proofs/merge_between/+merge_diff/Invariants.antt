@@ -8,8 +8,8 @@ use Rattle.json_value.specs.Left.{members_left}
 use Rattle.json_value.specs.Seen.{seen, members_seen}
 use Rattle.json_diff.proofs.merge_between.+merge_diff.Given as goal
 
-abbrev pub decreases-differing : goal.decreases-differing
-decreases-differing l = 5 * nodes (seen l.new)
+abbrev pub decreases-changed_member : goal.decreases-changed_member
+decreases-changed_member l = 5 * nodes (seen l.new)
 
 abbrev pub decreases-object_patch : goal.decreases-object_patch
 decreases-object_patch l = 5 * pairs_nodes (list_pairs (members_seen l.to)) + 4

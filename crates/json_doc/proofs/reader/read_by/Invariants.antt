@@ -7,7 +7,7 @@ use Rattle.json_doc.specs.Progress.{AreInStep}
 use Rattle.json_doc.proofs.reader.read_by.Given as goal
 
 abbrev pub invariant-events : goal.invariant-events
-invariant-events l = (ts : List Token) × AreInStep (rules_of l.rules).limit (state_of l.text 0 false l.limit l.at l.kinds l.spot None) l.visitor l.text ts × Differ (rules_of l.rules) l.keys ts × (l.at ≤ length l.text)
+invariant-events l = (ts : List Token) × AreInStep (rules_of l.rules).limit (state_of l.text 0 false l.limit l.at l.kinds l.expected None) l.visitor l.text ts × Differ (rules_of l.rules) l.keys ts × (l.at ≤ length l.text)
 
 abbrev pub decreases-events : goal.decreases-events
 decreases-events l = length l.text - l.at

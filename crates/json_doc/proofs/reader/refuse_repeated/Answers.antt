@@ -6,7 +6,7 @@ use Rattle.json_doc.proofs.Following.{means_at}
 use Rattle.json_doc.proofs.reader.refuse_repeated.Goals as goal
 
 pub returns-then-branch-clause-err : goal.returns-then-branch-clause-err
-returns-then-branch-clause-err c = inr (c.in-Key.name, c.in-Key.is, (λ s all k h. (c.in_ok-take_key-in-Key.ensures.ok s k all h).0.0 c.if-branch.true), c.repeated.ensures)
+returns-then-branch-clause-err c = inr (c.in-Key.name, c.in-Key.is, (λ s all k h. (c.in_ok-take_key-in-Key.ensures.ok s k all h).0.0 c.if-branch.true), c.repeated_name_error.ensures)
 
 pub returns-else-branch-clause-ok : goal.returns-else-branch-clause-ok
 returns-else-branch-clause-ok c x m =

@@ -13,8 +13,8 @@ decreases-emit_document g l = 2 * nodes (view_tree l.view) + 1
 abbrev pub decreases-emit_children : goal.decreases-emit_children
 decreases-emit_children g l = 2 * trees_nodes (list_trees (children_left l.children)) + 2
 
-abbrev pub decreases-emit_pairs : goal.decreases-emit_pairs
-decreases-emit_pairs g l = 2 * pairs_nodes (list_pairs (pairs_left l.members)) + 2
+abbrev pub decreases-emit_packed_pairs : goal.decreases-emit_packed_pairs
+decreases-emit_packed_pairs g l = 2 * pairs_nodes (list_pairs (pairs_left l.members)) + 2
 
 abbrev pub invariant-emit_children-loop-child : goal.invariant-emit_children-loop-child
 invariant-emit_children-loop-child g l =
@@ -23,9 +23,9 @@ invariant-emit_children-loop-child g l =
     × (g.E.Events.state l.out ≡ after_all g.E.Events.after (g.E.Events.state l.fn.out) (array_front (children_left l.fn.children) i))
     × (g.E.Events.failed l.out ≡ None) × (g.E.Events.failed l.fn.out ≡ None)
 
-abbrev pub invariant-emit_pairs-loop-key : goal.invariant-emit_pairs-loop-key
-invariant-emit_pairs-loop-key g l =
-    (goal.iterator-emit_pairs-loop-key g).can_next l.key-iterator × (goal.iterator-emit_pairs-loop-key g).is_finite l.key-iterator
+abbrev pub invariant-emit_packed_pairs-loop-key : goal.invariant-emit_packed_pairs-loop-key
+invariant-emit_packed_pairs-loop-key g l =
+    (goal.iterator-emit_packed_pairs-loop-key g).can_next l.key-iterator × (goal.iterator-emit_packed_pairs-loop-key g).is_finite l.key-iterator
     × (i : ℕ) × (drop i (pairs_left l.fn.members) ≡ pairs_left l.key-iterator)
     × (g.E.Events.state l.out ≡ after_all g.E.Events.after (g.E.Events.state l.fn.out) (object_front (pairs_left l.fn.members) i))
     × (g.E.Events.failed l.out ≡ None) × (g.E.Events.failed l.fn.out ≡ None)

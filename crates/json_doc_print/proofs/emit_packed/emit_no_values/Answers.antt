@@ -4,14 +4,14 @@ use Rattle.json_grammar.specs.declared.Kind.TheVariants.{Array as array}
 use Rattle.json_grammar.specs.Tree.{begin, end}
 use Rattle.json_print.specs.Given.{given}
 use Rattle.json_doc_print.proofs.TokensGiven.{emits_none, was_fresh, emits_last, array_given, array_whole, array_front}
-use Rattle.json_doc_print.proofs.Walking.{took, not_taken, told, halts}
+use Rattle.json_doc_print.proofs.Walking.{took, not_taken, reported, halts}
 use Rattle.json_doc_print.proofs.emit_packed.emit_no_values.Goals as goal
 
-pub returns-in_err-taken : goal.returns-in_err-taken
-returns-in_err-taken g c =
-    let d = not_taken _ c.begin_array.ensures c.in_err-taken.ensures in
+pub returns-in_err-events_result : goal.returns-in_err-events_result
+returns-in_err-events_result g c =
+    let d = not_taken _ c.begin_array.ensures c.in_err-events_result.ensures in
     halts _ d.0 (err_from_is_err_and c.from_residual.result c.from_residual.ensures.1) (emits_none _ _ _ _ _ _ (given (begin array)) _ _ _ (array_given []) d.1)
 
 pub returns : goal.returns
 returns g c =
-    told _ _ c.taken-2.ensures (emits_last _ _ _ _ _ _ _ _ (array_front [] 0) (given (end array)) _ _ (was_fresh _ _ _ _ _ _ (given (begin array)) _ (took _ c.begin_array.ensures c.in_ok-taken.ensures)) (took _ c.begin_array.ensures c.in_ok-taken.ensures).ok (took _ c.begin_array.ensures c.in_ok-taken.ensures).fresh (array_whole [] 0 (omega arith)) c.end_array.ensures)
+    reported _ _ c.events_result-2.ensures (emits_last _ _ _ _ _ _ _ _ (array_front [] 0) (given (end array)) _ _ (was_fresh _ _ _ _ _ _ (given (begin array)) _ (took _ c.begin_array.ensures c.in_ok-events_result.ensures)) (took _ c.begin_array.ensures c.in_ok-events_result.ensures).ok (took _ c.begin_array.ensures c.in_ok-events_result.ensures).fresh (array_whole [] 0 (omega arith)) c.end_array.ensures)

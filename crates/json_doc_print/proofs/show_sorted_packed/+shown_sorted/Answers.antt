@@ -13,7 +13,7 @@ use Rattle.json_doc.specs.declared.pairs.DocPairs.{DocPairs}
 use Rattle.json_layout.specs.Showing.{lead, key_shown}
 use Rattle.json_layout.proofs.ShownParts.{added_shows, Adds-same, Shows-first, Shows-then, Shows-same}
 use Rattle.json_doc_print.specs.Readings.{members}
-use Rattle.json_doc_print.specs.KeyOrder.{IsKeyOrder, numbers_in, place_key}
+use Rattle.json_doc_print.specs.KeyOrder.{IsKeyOrder, numbers_in, key_before}
 use Rattle.json_doc_print.proofs.KeyFronts.{number_of, entry_there, entries_end, entry_in, entry_tree}
 use Rattle.json_doc_print.proofs.KeyOrders.{paired, sorted_at, sorted_pair, in_place, place_below, places_sorted}
 use Rattle.json_doc_print.proofs.ShownTrees.{elements_left, members_left, goes_from, goes_last, element_on, element_failed, element_bound, member_on, key_failed, value_failed, member_bound, there, none_there}
@@ -23,7 +23,7 @@ use Rattle.json_doc_print.proofs.show_sorted_packed.+shown_sorted.Goals as goal
 
 -- the member of a place, with its value sorted
 abbrev member_in : Doc → ℕ → List ℕ × Tree
-member_in d = paired (place_key d) (sorted_at (doc_tree d))
+member_in d = paired (key_before d) (sorted_at (doc_tree d))
 
 -- ---- a value
 
@@ -129,8 +129,8 @@ show_sorted_children-returns g t c =
 
 -- ---- an object
 
-pub show_sorted_members-show_in_place-requires : goal.show_sorted_members-show_in_place-requires
-show_sorted_members-show_in_place-requires g t c κs within =
+pub show_sorted_members-show_packed_in_place-requires : goal.show_sorted_members-show_packed_in_place-requires
+show_sorted_members-show_packed_in_place-requires g t c κs within =
     let o = c.in-Object.ensures.tree in let same = ap members o.1 ∙ sym o.2 in
     (omega (arith, ap (λ ps. pairs_nodes (list_pairs ps)) same), (within.0, (within.1, subst (λ ps. NeverFall (list_pairs ps)) same (c.keys_in_order.ensures c.if-keys_in_order.true))))
 
@@ -142,7 +142,7 @@ show_sorted_members-show_by_places-requires g t c κs within =
 pub show_sorted_members-returns-then-keys_in_order : goal.show_sorted_members-returns-then-keys_in_order
 show_sorted_members-returns-then-keys_in_order g t c =
     let o = c.in-Object.ensures.tree in
-    Shows-same _ _ _ _ _ (ap (λ ps. shown (g.L.Layout.indent c.args.layout.inner) c.args.level (sorted (pairs (list_pairs ps)))) (o.2 ∙ sym (ap members o.1))) c.show_in_place.ensures
+    Shows-same _ _ _ _ _ (ap (λ ps. shown (g.L.Layout.indent c.args.layout.inner) c.args.level (sorted (pairs (list_pairs ps)))) (o.2 ∙ sym (ap members o.1))) c.show_packed_in_place.ensures
 
 pub show_sorted_members-returns-else-keys_in_order : goal.show_sorted_members-returns-else-keys_in_order
 show_sorted_members-returns-else-keys_in_order g t c =
@@ -151,13 +151,13 @@ show_sorted_members-returns-else-keys_in_order g t c =
 
 -- ---- an object whose keys are in order
 
-pub show_in_place-returns-in_err-show_piece : goal.show_in_place-returns-in_err-show_piece
-show_in_place-returns-in_err-show_piece g t c =
+pub show_packed_in_place-returns-in_err-show_piece : goal.show_packed_in_place-returns-in_err-show_piece
+show_packed_in_place-returns-in_err-show_piece g t c =
     let p = err_from_is_err_and c.from_residual.result c.from_residual.ensures.1 in let ps = pairs_left c.args.members in
     rw (p.1, p.2) (Shows-same _ _ _ _ _ (sorted_object_is (g.L.Layout.indent c.args.layout.inner) c.args.level ps (map sorted_pair ps) (in_place ps c.requires)) (Shows-first _ _ (123 ∷ []) _ _ (added_shows _ _ _ _ c.in_err-show_piece.ensures)))
 
-pub show_in_place-loop-key-init : goal.show_in_place-loop-key-init
-show_in_place-loop-key-init g t c =
+pub show_packed_in_place-loop-key-init : goal.show_packed_in_place-loop-key-init
+show_packed_in_place-loop-key-init g t c =
     let i = g.L.Layout.indent c.args.layout.inner in let d = c.args.level in let e = c.into_iter-key-iterator.ensures.into_iter_gives in let ps = pairs_left c.args.members in (
       tt,
       tt,
@@ -165,23 +165,23 @@ show_in_place-loop-key-init g t c =
       goes_from _ _ _ 123 _ _ _ c.in_ok-show_piece.ensures (ap (λ (s : DocPairs). 123 ∷ members_left i d (d + 1) true (map sorted_pair (pairs_left s))) e ∙ sorted_object_is i d ps (map sorted_pair ps) (in_place ps c.requires)),
     )
 
-pub show_in_place-returns-in_err-key : goal.show_in_place-returns-in_err-key
-show_in_place-returns-in_err-key g t c =
+pub show_packed_in_place-returns-in_err-key : goal.show_packed_in_place-returns-in_err-key
+show_packed_in_place-returns-in_err-key g t c =
     let p = err_from_is_err_and c.from_residual-in_err-key.result c.from_residual-in_err-key.ensures.1 in
     rw (p.1, p.2) (key_failed _ _ _ (g.L.Layout.indent c.args.layout.inner) c.args.level (c.args.level + 1) c.loop-key.first c.in-Some.key.now (sorted (view_tree c.in-Some.value)) _ _ _ _ c.loop-key.invariant.3 (ap (map sorted_pair) c.in-Some.ensures.steps.0) c.in_err-key.ensures)
 
-pub show_in_place-show_sorted_member-requires : goal.show_in_place-show_sorted_member-requires
-show_in_place-show_sorted_member-requires g t c κs within =
+pub show_packed_in_place-show_sorted_member-requires : goal.show_packed_in_place-show_sorted_member-requires
+show_packed_in_place-show_sorted_member-requires g t c κs within =
     let u = view_tree c.in-Some.value in let b = member_bound c.in-Some.key.now u u _ _ c.in-Some.ensures.steps.0 refl in
     (omega (arith, b, c.loop-key.invariant.2), within)
 
-pub show_in_place-returns-in_err-show_sorted_member : goal.show_in_place-returns-in_err-show_sorted_member
-show_in_place-returns-in_err-show_sorted_member g t c =
+pub show_packed_in_place-returns-in_err-show_sorted_member : goal.show_packed_in_place-returns-in_err-show_sorted_member
+show_packed_in_place-returns-in_err-show_sorted_member g t c =
     let p = err_from_is_err_and c.from_residual-in_err-show_sorted_member.result c.from_residual-in_err-show_sorted_member.ensures.1 in let u = sorted (view_tree c.in-Some.value) in
     rw (p.1, p.2) (value_failed _ _ _ _ (g.L.Layout.indent c.args.layout.inner) c.args.level (c.args.level + 1) c.loop-key.first c.in-Some.key.now u u _ _ _ _ _ c.loop-key.invariant.3 (ap (map sorted_pair) c.in-Some.ensures.steps.0) refl c.in_ok-key.ensures c.in_err-show_sorted_member.ensures)
 
-pub show_in_place-loop-key-preserved : goal.show_in_place-loop-key-preserved
-show_in_place-loop-key-preserved g t c =
+pub show_packed_in_place-loop-key-preserved : goal.show_packed_in_place-loop-key-preserved
+show_packed_in_place-loop-key-preserved g t c =
     let v = view_tree c.in-Some.value in let u = sorted v in let b = member_bound c.in-Some.key.now v v _ _ c.in-Some.ensures.steps.0 refl in (
       tt,
       tt,
@@ -189,8 +189,8 @@ show_in_place-loop-key-preserved g t c =
       member_on _ _ _ _ (g.L.Layout.indent c.args.layout.inner) c.args.level (c.args.level + 1) c.loop-key.first c.in-Some.key.now u u _ _ _ _ _ c.loop-key.invariant.3 (ap (map sorted_pair) c.in-Some.ensures.steps.0) refl c.in_ok-key.ensures c.in_ok-show_sorted_member.ensures,
     )
 
-pub show_in_place-returns : goal.show_in_place-returns
-show_in_place-returns g t c =
+pub show_packed_in_place-returns : goal.show_packed_in_place-returns
+show_packed_in_place-returns g t c =
     goes_last _ _ _ _ _ _ _ _ _ c.loop-key.invariant.3 (sym (ap (λ ps. members_left (g.L.Layout.indent c.args.layout.inner) c.args.level (c.args.level + 1) c.loop-key.first (map sorted_pair ps)) c.in-None.ensures.steps.0.0)) c.close.ensures
 
 -- ---- an object by an index of its members
@@ -205,34 +205,34 @@ show_by_places-returns-in_err-show_piece g t c =
 pub show_by_places-loop-entry-init : goal.show_by_places-loop-entry-init
 show_by_places-loop-entry-init g t c =
     let d = c.args.doc.now in let ns = numbers_in c.deref-entry-items.result.now in
-    let is = subst (λ es. IsKeyOrder (place_key d) (places_of_pairs c.args.members) (numbers_in es)) (sym c.deref-entry-items.ensures.value) c.in-Ok.ensures.order in
+    let is = subst (λ es. IsKeyOrder (key_before d) (places_of_pairs c.args.members) (numbers_in es)) (sym c.deref-entry-items.ensures.value) c.in-Ok.ensures.order in
     goes_from _ _ _ 123 _ _ _ c.in_ok-show_piece.ensures (sorted_object_is (g.L.Layout.indent c.args.layout.inner) c.args.level (pairs_left c.args.members) (map (member_in d) ns) (places_sorted d (pairs_doc c.args.members) (places_of_pairs c.args.members) ns c.requires is))
 
 pub show_by_places-returns-in_err-key : goal.show_by_places-returns-in_err-key
 show_by_places-returns-in_err-key g t c =
     let p = err_from_is_err_and c.from_residual-in_err-key.result c.from_residual-in_err-key.ensures.1 in
     let d = c.args.doc.now in let es = c.deref-entry-items.result.now in let i = c.loop-entry.entry-index in let n = number_of es i in let qs = map (member_in d) (numbers_in es) in
-    rw (p.1, p.2) (key_failed _ _ _ (g.L.Layout.indent c.args.layout.inner) c.args.level (c.args.level + 1) c.loop-entry.first (place_key d n) (sorted (doc_tree d n)) _ (drop (i + 1) qs) _ _ c.loop-entry.invariant (there qs i (member_in d n) (entry_there (member_in d) es i c.loop-entry-test.true))
+    rw (p.1, p.2) (key_failed _ _ _ (g.L.Layout.indent c.args.layout.inner) c.args.level (c.args.level + 1) c.loop-entry.first (key_before d n) (sorted (doc_tree d n)) _ (drop (i + 1) qs) _ _ c.loop-entry.invariant (there qs i (member_in d n) (entry_there (member_in d) es i c.loop-entry-test.true))
     (Adds-same _ _ _ _ _ (ap (key_shown (g.L.Layout.indent c.args.layout.inner) (c.args.level + 1) c.loop-entry.first) c.key-key.ensures) c.in_err-key.ensures))
 
 pub show_by_places-overflow_cast-entry : goal.show_by_places-overflow_cast-entry
 show_by_places-overflow_cast-entry g t c =
     let d = c.args.doc.now in let p = c.args.members in let es = c.deref-entry-items.result.now in
-    let is = subst (λ es. IsKeyOrder (place_key d) (places_of_pairs p) (numbers_in es)) (sym c.deref-entry-items.ensures.value) c.in-Ok.ensures.order in
+    let is = subst (λ es. IsKeyOrder (key_before d) (places_of_pairs p) (numbers_in es)) (sym c.deref-entry-items.ensures.value) c.in-Ok.ensures.order in
     let below = place_below (doc_cells (pairs_doc p)) 1 (p.next + 1) p.left _ p.inside (entry_in d (pairs_doc p) (places_of_pairs p) es c.requires is c.loop-entry.entry-index c.loop-entry-test.true) in
     omega (arith, below, (pairs_doc p).small)
 
 pub show_by_places-view_at-requires : goal.show_by_places-view_at-requires
 show_by_places-view_at-requires g t c =
     let d = c.args.doc.now in let p = c.args.members in let es = c.deref-entry-items.result.now in
-    let is = subst (λ es. IsKeyOrder (place_key d) (places_of_pairs p) (numbers_in es)) (sym c.deref-entry-items.ensures.value) c.in-Ok.ensures.order in
+    let is = subst (λ es. IsKeyOrder (key_before d) (places_of_pairs p) (numbers_in es)) (sym c.deref-entry-items.ensures.value) c.in-Ok.ensures.order in
     subst (λ x. number_of es c.loop-entry.entry-index < length (doc_cells x)) c.requires
     (place_below (doc_cells (pairs_doc p)) 1 (p.next + 1) p.left _ p.inside (entry_in d (pairs_doc p) (places_of_pairs p) es c.requires is c.loop-entry.entry-index c.loop-entry-test.true))
 
 pub show_by_places-show_sorted_member-requires : goal.show_by_places-show_sorted_member-requires
 show_by_places-show_sorted_member-requires g t c κs within =
     let d = c.args.doc.now in let p = c.args.members in let es = c.deref-entry-items.result.now in
-    let is = subst (λ es. IsKeyOrder (place_key d) (places_of_pairs p) (numbers_in es)) (sym c.deref-entry-items.ensures.value) c.in-Ok.ensures.order in
+    let is = subst (λ es. IsKeyOrder (key_before d) (places_of_pairs p) (numbers_in es)) (sym c.deref-entry-items.ensures.value) c.in-Ok.ensures.order in
     let small = entry_tree d (pairs_doc p) (places_of_pairs p) es c.requires is c.loop-entry.entry-index c.loop-entry-test.true in
     (omega (arith, small, ap nodes c.view_at.ensures.tree), within)
 
@@ -240,14 +240,14 @@ pub show_by_places-returns-in_err-show_sorted_member : goal.show_by_places-retur
 show_by_places-returns-in_err-show_sorted_member g t c =
     let p = err_from_is_err_and c.from_residual-in_err-show_sorted_member.result c.from_residual-in_err-show_sorted_member.ensures.1 in let l = g.L.Layout.indent c.args.layout.inner in let e = c.args.level + 1 in
     let d = c.args.doc.now in let es = c.deref-entry-items.result.now in let i = c.loop-entry.entry-index in let n = number_of es i in let qs = map (member_in d) (numbers_in es) in
-    rw (p.1, p.2) (value_failed _ _ _ _ l c.args.level e c.loop-entry.first (place_key d n) (sorted (view_tree c.view_at.result)) (sorted (doc_tree d n)) _ (drop (i + 1) qs) _ _ _ c.loop-entry.invariant
+    rw (p.1, p.2) (value_failed _ _ _ _ l c.args.level e c.loop-entry.first (key_before d n) (sorted (view_tree c.view_at.result)) (sorted (doc_tree d n)) _ (drop (i + 1) qs) _ _ _ c.loop-entry.invariant
     (there qs i (member_in d n) (entry_there (member_in d) es i c.loop-entry-test.true)) (ap sorted c.view_at.ensures.tree) (Adds-same _ _ _ _ _ (ap (key_shown l e c.loop-entry.first) c.key-key.ensures) c.in_ok-key.ensures) c.in_err-show_sorted_member.ensures)
 
 pub show_by_places-loop-entry-preserved : goal.show_by_places-loop-entry-preserved
 show_by_places-loop-entry-preserved g t c =
     let l = g.L.Layout.indent c.args.layout.inner in let e = c.args.level + 1 in
     let d = c.args.doc.now in let es = c.deref-entry-items.result.now in let i = c.loop-entry.entry-index in let n = number_of es i in let qs = map (member_in d) (numbers_in es) in
-    member_on _ _ _ _ l c.args.level e c.loop-entry.first (place_key d n) (sorted (view_tree c.view_at.result)) (sorted (doc_tree d n)) _ (drop (i + 1) qs) _ _ _ c.loop-entry.invariant
+    member_on _ _ _ _ l c.args.level e c.loop-entry.first (key_before d n) (sorted (view_tree c.view_at.result)) (sorted (doc_tree d n)) _ (drop (i + 1) qs) _ _ _ c.loop-entry.invariant
     (there qs i (member_in d n) (entry_there (member_in d) es i c.loop-entry-test.true)) (ap sorted c.view_at.ensures.tree) (Adds-same _ _ _ _ _ (ap (key_shown l e c.loop-entry.first) c.key-key.ensures) c.in_ok-key.ensures) c.in_ok-show_sorted_member.ensures
 
 pub show_by_places-returns : goal.show_by_places-returns

@@ -11,9 +11,9 @@ returns-then-not-is_refusal-clause-explained g c = λ h.
 
 pub returns-in-Ok-Some-clause-explained : goal.returns-in-Ok-Some-clause-explained
 returns-in-Ok-Some-clause-explained g c = λ h.
-    let e = c.placed.ensures in
+    let e = c.explained_at.ensures in
     let i = sym c.is_refusal.ensures ∙ c.if-not-is_refusal.false in
-    placed_explained c.args.depth g.T.Explain.refused c.args.text.now c.placed.result c.args.error c.in-Ok-Some.refusal e.error e.refusal i (h i) (rw c.in-Ok-Some.field-0-is at c.in-Ok-Some.ensures) e.place
+    placed_explained c.args.depth g.T.Explain.refused c.args.text.now c.explained_at.result c.args.error c.in-Ok-Some.refusal e.error e.refusal i (h i) (rw c.in-Ok-Some.field-0-is at c.in-Ok-Some.ensures) e.place
 
 pub returns-in-Ok-None-clause-explained : goal.returns-in-Ok-None-clause-explained
 returns-in-Ok-None-clause-explained g c = λ h.
@@ -24,4 +24,4 @@ returns-in-Ok-None-clause-explained g c = λ h.
 pub returns-in-Err-clause-explained : goal.returns-in-Err-clause-explained
 returns-in-Err-clause-explained g c = λ h.
     let e = c.plain-in-Err.ensures in
-    plain_error c.args.depth g.T.Explain.refused c.args.text.now c.plain-in-Err.result c.refusal.result e.error e.refusal e.place (ap (λ (x : Error). is_refusal x.code) c.refusal.ensures)
+    plain_error c.args.depth g.T.Explain.refused c.args.text.now c.plain-in-Err.result c.error_without_place.result e.error e.refusal e.place (ap (λ (x : Error). is_refusal x.code) c.error_without_place.ensures)

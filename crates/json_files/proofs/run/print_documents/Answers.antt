@@ -2,7 +2,7 @@ use Rattle.std.proofs.Common.{inl, inr, refl, ap, ◌∙◌}
 use Rattle.json_command.specs.Statuses.{status_number}
 use Rattle.json_io.specs.Errors.{writing_failed}
 use Rattle.json_files.proofs.Handled.{prints_all, small, prints_some, high, not_high, not_small}
-use Rattle.json_files.proofs.SmallStatuses.{told_status}
+use Rattle.json_files.proofs.SmallStatuses.{reported_status}
 use Rattle.json_files.proofs.TextWriting.{ok_no_error}
 use Rattle.json_files.proofs.run.print_documents.Goals as goal
 
@@ -15,8 +15,8 @@ returns-in-Ok-clause-failed g c = λ big. absurd (not_small _ (small _ _ _ _ _ _
 pub returns-in-Ok-clause-known : goal.returns-in-Ok-clause-known
 returns-in-Ok-clause-known g c = inl (small _ _ _ _ _ _ _ _ c.in-Ok.ensures.ok)
 
-pub returns-in-Ok-clause-write_told : goal.returns-in-Ok-clause-write_told
-returns-in-Ok-clause-write_told g c = λ l. absurd (ok_no_error _ writing_failed (c.in-Ok.ensures.told l))
+pub returns-in-Ok-clause-write_error : goal.returns-in-Ok-clause-write_error
+returns-in-Ok-clause-write_error g c = λ l. absurd (ok_no_error _ writing_failed (c.in-Ok.ensures.reported l))
 
 pub returns-in-Err-clause-done : goal.returns-in-Err-clause-done
 returns-in-Err-clause-done g c = λ low. absurd (not_high _ low (high _ _ _ _ _ _ _ _ c.in-Err.error _ (c.number.ensures ∙ ap status_number c.of_error.ensures) c.in-Err.ensures.err))
@@ -29,5 +29,5 @@ returns-in-Err-clause-failed g c =
 pub returns-in-Err-clause-known : goal.returns-in-Err-clause-known
 returns-in-Err-clause-known g c = inr (high _ _ _ _ _ _ _ _ c.in-Err.error _ (c.number.ensures ∙ ap status_number c.of_error.ensures) c.in-Err.ensures.err)
 
-pub returns-in-Err-clause-write_told : goal.returns-in-Err-clause-write_told
-returns-in-Err-clause-write_told g c = λ l. c.number.ensures ∙ ap status_number c.of_error.ensures ∙ told_status c.in-Err.error (c.in-Err.ensures.told l)
+pub returns-in-Err-clause-write_error : goal.returns-in-Err-clause-write_error
+returns-in-Err-clause-write_error g c = λ l. c.number.ensures ∙ ap status_number c.of_error.ensures ∙ reported_status c.in-Err.error (c.in-Err.ensures.reported l)

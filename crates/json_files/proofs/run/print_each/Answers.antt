@@ -1,6 +1,6 @@
 use Rattle.json_files.specs.Outcomes.{task_of}
 use Rattle.json_files.proofs.Handled.{Handles-none, Handles-then, Handles-as, StopsRunning-then, documents_none, documents_more, documents_stop, documents_all}
-use Rattle.json_files.proofs.TextWriting.{told_then}
+use Rattle.json_files.proofs.TextWriting.{reported_then}
 use Rattle.json_files.proofs.run.print_each.Goals as goal
 
 pub loop-document-init : goal.loop-document-init
@@ -16,12 +16,12 @@ returns-in-Err-clause-err g c =
     StopsRunning-then _ _ _ _ _ _ _ _ _ _ _ _ c.in-Err.error c.loop-document.invariant c.in-Err.ensures.err
     (documents_stop (task_of g.C.Change.changed c.args.job.now) c.args.documents.now c.loop-document.document-index _ c.loop-document-test.true c.document-item.is)
 
-pub returns-in-Err-clause-told : goal.returns-in-Err-clause-told
-returns-in-Err-clause-told g c = told_then (g.K.Sink.state c.args.sink.now) (g.K.Sink.state c.loop-document.sink) (g.K.Sink.state c.handle_document.new.sink) _ tt _ c.loop-document.invariant.output c.in-Err.ensures.told
+pub returns-in-Err-clause-reported : goal.returns-in-Err-clause-reported
+returns-in-Err-clause-reported g c = reported_then (g.K.Sink.state c.args.sink.now) (g.K.Sink.state c.loop-document.sink) (g.K.Sink.state c.handle_document.new.sink) _ tt _ c.loop-document.invariant.output c.in-Err.ensures.reported
 
 pub returns-clause-ok : goal.returns-clause-ok
 returns-clause-ok g c =
     Handles-as _ _ _ _ _ _ _ _ c.loop-document.invariant (documents_all (task_of g.C.Change.changed c.args.job.now) c.args.documents.now c.loop-document.document-index c.loop-document-test.false)
 
-pub returns-clause-told : goal.returns-clause-told
-returns-clause-told g c = c.loop-document.invariant.output.told
+pub returns-clause-reported : goal.returns-clause-reported
+returns-clause-reported g c = c.loop-document.invariant.output.reported

@@ -25,12 +25,12 @@ pub returns-in-Err-clause-refused : goal.returns-in-Err-clause-refused
 returns-in-Err-clause-refused c =
     let at = c.loop-call in
     let rest = map call_of (into_iter_items c.next.new.self) in
-    numbered_call_fails at.number (history_of (log_of at.history)) (history_of (log_of c.args.history.now)) (call_of c.in-Some.call) rest (map call_of c.args.calls.items) c.in-Err.error c.numbered.result
+    numbered_call_fails at.number (history_of (log_of at.history)) (history_of (log_of c.args.history.now)) (call_of c.in-Some.call) rest (map call_of c.args.calls.items) c.in-Err.error c.error_at_call.result
     (ap (λ xs. run_calls_from at.number (history_of (log_of at.history)) (map call_of xs)) (sym c.in-Some.ensures.steps.0) ∙ at.invariant.done)
-    c.in-Err.ensures.refused c.numbered.ensures.code c.numbered.ensures.place
+    c.in-Err.ensures.refused c.error_at_call.ensures.code c.error_at_call.ensures.place
 
 pub returns-in-Err-clause-made : goal.returns-in-Err-clause-made
 returns-in-Err-clause-made c =
     let at = c.loop-call in
-    made_first (history_of (log_of c.args.history.now)) (log_of at.history) (log_of c.make_call.new.history) c.args.calls.items at.yielded (into_iter_items at.call-iterator) (into_iter_items c.next.new.self) c.in-Some.call at.number c.in-Err.error c.numbered.result
-    at.invariant.parts c.in-Some.ensures.steps.0 at.invariant.made c.in-Err.ensures.kept at.invariant.number c.in-Err.ensures.refused c.numbered.ensures.place
+    made_first (history_of (log_of c.args.history.now)) (log_of at.history) (log_of c.make_call.new.history) c.args.calls.items at.yielded (into_iter_items at.call-iterator) (into_iter_items c.next.new.self) c.in-Some.call at.number c.in-Err.error c.error_at_call.result
+    at.invariant.parts c.in-Some.ensures.steps.0 at.invariant.made c.in-Err.ensures.kept at.invariant.number c.in-Err.ensures.refused c.error_at_call.ensures.place

@@ -5,15 +5,15 @@ use Rattle.json_model.specs.Edit.{key_step}
 use Rattle.json_value.specs.Denotes.{tree_of, text_bytes}
 use Rattle.json_value.specs.Edits.{path_steps}
 use Rattle.json_value.specs.Seen.{seen, members_seen, first_of}
-use Rattle.json_value.specs.SightParts.{members_sights, sight_along}
-use Rattle.json_value.specs.Sights.{Sight, sight_of}
+use Rattle.json_value.specs.TargetParts.{members_targets, target_along}
+use Rattle.json_value.specs.ViewTargets.{ViewTarget, view_target}
 use Rattle.json_history.specs.Change.{put, drop_last}
 use Rattle.json_history.proofs.EditChanges.{insert_change_found}
-use Rattle.json_history.proofs.SharedSights.{sight_one_more, sight_of_key}
+use Rattle.json_history.proofs.SharedTargets.{target_one_more, target_of_key}
 use Rattle.json_history.proofs.edit_change.change_of_insert.Goals as goal
 
-pub returns-in_ok-path-in-Some-get-clause-told : goal.returns-in_ok-path-in-Some-get-clause-told
-returns-in_ok-path-in-Some-get-clause-told c =
+pub returns-in_ok-path-in-Some-get-clause-tree_change : goal.returns-in_ok-path-in-Some-get-clause-tree_change
+returns-in_ok-path-in-Some-get-clause-tree_change c =
     let p = path_steps c.args.path.now in
     let k = text_bytes c.args.key.now in
     let ms = members_seen c.in-Some.object in
@@ -22,8 +22,8 @@ returns-in_ok-path-in-Some-get-clause-told c =
     ∙ insert_change_found p k (seen c.args.target) ms (Some (seen c.in-Some-get.old)) (sym c.in-Some.ensures.trees)
     (ap (λ n. option_map (λ (q : List ℕ × Tree). q.1) (first_of n ms)) (sym c.as_str.ensures) ∙ sym c.in-Some-get.ensures.tree)
 
-pub returns-in_ok-path-in-None-clause-told : goal.returns-in_ok-path-in-None-clause-told
-returns-in_ok-path-in-None-clause-told c =
+pub returns-in_ok-path-in-None-clause-tree_change : goal.returns-in_ok-path-in-None-clause-tree_change
+returns-in_ok-path-in-None-clause-tree_change c =
     let p = path_steps c.args.path.now in
     let k = text_bytes c.args.key.now in
     let ms = members_seen c.in-Some.object in
@@ -35,12 +35,12 @@ pub returns-in_ok-path-in-Some-get-clause-shares : goal.returns-in_ok-path-in-So
 returns-in_ok-path-in-Some-get-clause-shares c root there =
     let p = path_steps c.args.path.now in
     let k = text_bytes c.args.key.now in
-    let target = sight_of c.args.target in
-    let ms = members_sights c.in-Some.object in
-    let old = sight_of c.in-Some-get.old in
-    let found = sight_of_key k target old ms (sym c.in-Some.ensures.sights) (ap (λ n. option_map (λ (q : List ℕ × Sight). q.1) (first_of n ms)) (sym c.as_str.ensures) ∙ sym c.in-Some-get.ensures.sight) in
+    let target = view_target c.args.target in
+    let ms = members_targets c.in-Some.object in
+    let old = view_target c.in-Some-get.old in
+    let found = target_of_key k target old ms (sym c.in-Some.ensures.sights) (ap (λ n. option_map (λ (q : List ℕ × ViewTarget). q.1) (first_of n ms)) (sym c.as_str.ensures) ∙ sym c.in-Some-get.ensures.target) in
     record {
       target = old;
-      there = ap (λ q. sight_along q root) c.in_ok-path-in-Some-get.ensures.path ∙ sight_one_more p (key_step k) root target old there found;
-      shared = (c.in_ok-old-in-Some-get.ensures.spot, c.in_ok-old-in-Some-get.ensures.places);
+      there = ap (λ q. target_along q root) c.in_ok-path-in-Some-get.ensures.path ∙ target_one_more p (key_step k) root target old there found;
+      shared = (c.in_ok-old-in-Some-get.ensures.position, c.in_ok-old-in-Some-get.ensures.places);
     }

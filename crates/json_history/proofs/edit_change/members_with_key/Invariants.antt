@@ -1,9 +1,9 @@
 use Rattle.std.proofs.Common.{◌≡◌, ◌≤◌, ◌-◌, ◌++◌, drop, length, map}
 use Rattle.std.specs.List.{All}
 use Rattle.json_grammar.specs.Tree.{list_pairs}
-use Rattle.json_value.specs.Left.{members_left, members_sights_left}
+use Rattle.json_value.specs.Left.{members_left, members_targets_left}
 use Rattle.json_value.specs.Seen.{members_seen}
-use Rattle.json_value.specs.SightParts.{members_sights}
+use Rattle.json_value.specs.TargetParts.{members_targets}
 use Rattle.json_history.specs.Change.{members_named}
 use Rattle.json_history.specs.ChangeTrees.{removed_member}
 use Rattle.json_history.specs.SharedParts.{MemberShares}
@@ -16,6 +16,6 @@ invariant-loop-name l = record {
   count : l.left ≡ length (members_left l.name-iterator);
   below : l.left ≤ l.len;
   members : map removed_member l.list.items ++ members_named (l.len - l.left) l.key (list_pairs (members_left l.name-iterator)) ≡ members_named 0 l.key (list_pairs (members_seen l.fn.object));
-  sights : members_sights_left l.name-iterator ≡ drop (l.len - l.left) (members_sights l.fn.object);
-  shares : All (MemberShares (members_sights l.fn.object)) l.list.items;
+  sights : members_targets_left l.name-iterator ≡ drop (l.len - l.left) (members_targets l.fn.object);
+  shares : All (MemberShares (members_targets l.fn.object)) l.list.items;
 }

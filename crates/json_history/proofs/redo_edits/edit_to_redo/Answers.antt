@@ -6,8 +6,8 @@ use Rattle.json_model.specs.Edit.{set_at}
 use Rattle.json_value.specs.Denotes.{tree_of}
 use Rattle.json_value.specs.Edits.{edit_of, path_steps}
 use Rattle.json_value.specs.Seen.{seen}
-use Rattle.json_value.specs.SightParts.{sight_along}
-use Rattle.json_value.specs.Sights.{whole_value}
+use Rattle.json_value.specs.TargetParts.{target_along}
+use Rattle.json_value.specs.ViewTargets.{whole_value}
 use Rattle.json_history.specs.Change.{redo_edit, edit_of_last}
 use Rattle.json_history.specs.ChangeTrees.{tree_change_of}
 use Rattle.json_history.proofs.RepeatedEdits.{put_redo_found, put_redo_missing, drop_redo_found, drop_redo_missing}
@@ -38,9 +38,9 @@ returns-in-None-pointer-clause-edit c = drop_redo_missing c.args.change.now c.in
 pub returns-in-Some-clause-shares : goal.returns-in-Some-clause-shares
 returns-in-Some-clause-shares c =
     let root = whole_value c.args.value.now in
-    c.set_edit.ensures.shares root (ap (λ p. sight_along p root) (sym c.steps.ensures) ∙ sym c.in-Some.ensures.sight)
+    c.set_edit.ensures.shares root (ap (λ p. target_along p root) (sym c.steps.ensures) ∙ sym c.in-Some.ensures.target)
 
 pub returns-in-Some-pointer-clause-shares : goal.returns-in-Some-pointer-clause-shares
 returns-in-Some-pointer-clause-shares c =
     let root = whole_value c.args.value.now in
-    c.last_edit.ensures.shares root (ap (λ p. sight_along p root) (sym c.steps-in-DropLast.ensures) ∙ sym c.in-Some-pointer.ensures.sight)
+    c.last_edit.ensures.shares root (ap (λ p. target_along p root) (sym c.steps-in-DropLast.ensures) ∙ sym c.in-Some-pointer.ensures.target)

@@ -6,7 +6,7 @@ use Rattle.json_grammar.specs.Tree.{list_pairs, list_trees}
 use Rattle.json_model.specs.Edit.{within, push_at}
 use Rattle.json_value.specs.Edits.{edit_of, path_steps}
 use Rattle.json_value.specs.Seen.{seen, members_seen, elements_seen}
-use Rattle.json_value.specs.Sights.{sight_of}
+use Rattle.json_value.specs.ViewTargets.{view_target}
 use Rattle.json_history.specs.Change.{edit_of_last, last_member, last_element}
 use Rattle.json_history.proofs.RepeatedEdits.{insert_edit_of, object_last_edit, array_last_edit}
 use Rattle.json_history.proofs.redo_edits.last_edit.Goals as goal
@@ -28,7 +28,7 @@ returns-in-Some-as_array-clause-edit c =
     c.last_push_edit.ensures.edit
 
 pub returns-in-Some-clause-shares : goal.returns-in-Some-clause-shares
-returns-in-Some-clause-shares c = c.last_insert_edit.ensures.shares (sight_of c.args.target) (sym c.in-Some.ensures.sights)
+returns-in-Some-clause-shares c = c.last_insert_edit.ensures.shares (view_target c.args.target) (sym c.in-Some.ensures.sights)
 
 pub returns-in-Some-as_array-clause-shares : goal.returns-in-Some-as_array-clause-shares
-returns-in-Some-as_array-clause-shares c = c.last_push_edit.ensures.shares (sight_of c.args.target) (sym c.in-Some-as_array.ensures.sights)
+returns-in-Some-as_array-clause-shares c = c.last_push_edit.ensures.shares (view_target c.args.target) (sym c.in-Some-as_array.ensures.sights)

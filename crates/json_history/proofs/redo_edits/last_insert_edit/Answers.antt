@@ -3,10 +3,10 @@ use Rattle.json_model.specs.Edit.{insert_at}
 use Rattle.json_value.specs.Denotes.{tree_of, text_bytes}
 use Rattle.json_value.specs.Edits.{path_steps}
 use Rattle.json_value.specs.Seen.{seen, members_seen}
-use Rattle.json_value.specs.SightParts.{members_sights, sight_along}
-use Rattle.json_value.specs.Sights.{Sight, sight_of}
+use Rattle.json_value.specs.TargetParts.{members_targets, target_along}
+use Rattle.json_value.specs.ViewTargets.{ViewTarget, view_target}
 use Rattle.json_history.proofs.RepeatedEdits.{last_insert_edit}
-use Rattle.json_history.proofs.SharedSights.{last_member_sight}
+use Rattle.json_history.proofs.SharedTargets.{last_member_target}
 use Rattle.json_history.proofs.redo_edits.last_insert_edit.Goals as goal
 
 pub returns-in_ok-path-in-Some-clause-edit : goal.returns-in_ok-path-in-Some-clause-edit
@@ -24,13 +24,13 @@ returns-in-None-clause-edit c = last_insert_edit (path_steps c.args.path.now) (m
 
 pub returns-in_ok-path-in-Some-clause-shares : goal.returns-in_ok-path-in-Some-clause-shares
 returns-in_ok-path-in-Some-clause-shares c target object root there =
-    let member : List ℕ × Sight = (c.in-Some.key.now, sight_of c.in-Some.value) in
+    let member : List ℕ × ViewTarget = (c.in-Some.key.now, view_target c.in-Some.value) in
     record {
       target = target;
-      members = members_sights c.args.object;
+      members = members_targets c.args.object;
       member = member;
-      there = ap (λ q. sight_along q root) c.in_ok-path-in-Some.ensures.path ∙ there;
+      there = ap (λ q. target_along q root) c.in_ok-path-in-Some.ensures.path ∙ there;
       object = object;
-      last = last_member_sight c.args.object c.len-len.result member c.len-len.ensures (sym c.in-Some.ensures.sight);
-      shared = (c.in_ok-value-in-Some.ensures.spot, c.in_ok-value-in-Some.ensures.places);
+      last = last_member_target c.args.object c.len-len.result member c.len-len.ensures (sym c.in-Some.ensures.target);
+      shared = (c.in_ok-value-in-Some.ensures.position, c.in_ok-value-in-Some.ensures.places);
     }

@@ -3,10 +3,10 @@ use Rattle.json_model.specs.Edit.{push_at}
 use Rattle.json_value.specs.Denotes.{tree_of}
 use Rattle.json_value.specs.Edits.{path_steps}
 use Rattle.json_value.specs.Seen.{seen, elements_seen}
-use Rattle.json_value.specs.SightParts.{elements_sights, sight_along}
-use Rattle.json_value.specs.Sights.{sight_of}
+use Rattle.json_value.specs.TargetParts.{elements_targets, target_along}
+use Rattle.json_value.specs.ViewTargets.{view_target}
 use Rattle.json_history.proofs.RepeatedEdits.{last_push_edit}
-use Rattle.json_history.proofs.SharedSights.{last_element_sight}
+use Rattle.json_history.proofs.SharedTargets.{last_element_target}
 use Rattle.json_history.proofs.redo_edits.last_push_edit.Goals as goal
 
 pub returns-in_ok-path-in-Some-clause-edit : goal.returns-in_ok-path-in-Some-clause-edit
@@ -21,13 +21,13 @@ returns-in-None-clause-edit c = last_push_edit (path_steps c.args.path.now) (ele
 
 pub returns-in_ok-path-in-Some-clause-shares : goal.returns-in_ok-path-in-Some-clause-shares
 returns-in_ok-path-in-Some-clause-shares c target array root there =
-    let element = sight_of c.in-Some.value in
+    let element = view_target c.in-Some.value in
     record {
       target = target;
-      elements = elements_sights c.args.array;
+      elements = elements_targets c.args.array;
       element = element;
-      there = ap (λ q. sight_along q root) c.in_ok-path-in-Some.ensures.path ∙ there;
+      there = ap (λ q. target_along q root) c.in_ok-path-in-Some.ensures.path ∙ there;
       array = array;
-      last = last_element_sight c.args.array c.len-len.result element c.len-len.ensures (sym c.in-Some.ensures.sight);
-      shared = (c.in_ok-value-in-Some.ensures.spot, c.in_ok-value-in-Some.ensures.places);
+      last = last_element_target c.args.array c.len-len.result element c.len-len.ensures (sym c.in-Some.ensures.target);
+      shared = (c.in_ok-value-in-Some.ensures.position, c.in_ok-value-in-Some.ensures.places);
     }

@@ -23,7 +23,7 @@ returns-clause-touched c =
       same = c.in_ok-list.ensures.list;
       unpacked = c.in_ok-list.ensures.children;
       is = refl;
-      changed = (c.in_ok-old.old, λ i. record { spot = c.in_ok-old.ensures.spot i; parts = c.in_ok-old.ensures.places i }, c.in_ok-insert.ensures.items);
+      changed = (c.in_ok-old.old, λ i. record { position = c.in_ok-old.ensures.position i; parts = c.in_ok-old.ensures.places i }, c.in_ok-insert.ensures.items);
     }
 
 pub returns-in_err-insert-clause-untouched : goal.returns-in_err-insert-clause-untouched

@@ -10,8 +10,8 @@ use Rattle.json_history.specs.Restores.{with_restored_members}
 use Rattle.json_history.proofs.Restoring.{first_member_in_range, first_member_inserted}
 use Rattle.json_history.proofs.restore.insert_reserved_members.Goals as goal
 
-pub insert_member-requires-clause-within : goal.insert_member-requires-clause-within
-insert_member-requires-clause-within c =
+pub restore_member-requires-clause-within : goal.restore_member-requires-clause-within
+restore_member-requires-clause-within c =
     let ps = list_pairs (map pair_of c.loop-index.pairs.items) in
     let low = first_member_in_range (c.in-Some.index, c.in-Some.pair) (into_iter_items c.next.new.self) c.loop-index.pairs.items
     (subst (λ es. IsOk (insert_members (map removed_member es) ps)) c.in-Some.ensures.steps.0 (subst IsOk (sym c.loop-index.invariant.done) c.requires.places)) in
@@ -22,11 +22,11 @@ loop-index-preserved c =
     let e : ℕ × Keyed Value = (c.in-Some.index, c.in-Some.pair) in
     let es = into_iter_items c.next.new.self in
     let ps = c.loop-index.pairs.items in
-    let qs = c.insert_member.new.pairs.items in
+    let qs = c.restore_member.new.pairs.items in
     let ms = list_pairs (map pair_of ps) in
     let low = first_member_in_range e es ps (subst (λ ns. IsOk (insert_members (map removed_member ns) ms)) c.in-Some.ensures.steps.0 (subst IsOk (sym c.loop-index.invariant.done) c.requires.places)) in
     record {
-      done = sym (first_member_inserted e es ps qs low c.insert_member.ensures.items) ∙ ap (λ ns. insert_members (map removed_member ns) ms) (sym c.in-Some.ensures.steps.0) ∙ c.loop-index.invariant.done;
-      items = ap (with_restored_members es) c.insert_member.ensures.items ∙ ap (λ ns. with_restored_members ns ps) (sym c.in-Some.ensures.steps.0) ∙ c.loop-index.invariant.items;
-      room = omega (arith, c.insert_member.ensures.len, c.insert_member.ensures.capacity, c.loop-index.invariant.room, ap length c.in-Some.ensures.steps.0);
+      done = sym (first_member_inserted e es ps qs low c.restore_member.ensures.items) ∙ ap (λ ns. insert_members (map removed_member ns) ms) (sym c.in-Some.ensures.steps.0) ∙ c.loop-index.invariant.done;
+      items = ap (with_restored_members es) c.restore_member.ensures.items ∙ ap (λ ns. with_restored_members ns ps) (sym c.in-Some.ensures.steps.0) ∙ c.loop-index.invariant.items;
+      room = omega (arith, c.restore_member.ensures.len, c.restore_member.ensures.capacity, c.loop-index.invariant.room, ap length c.in-Some.ensures.steps.0);
     }

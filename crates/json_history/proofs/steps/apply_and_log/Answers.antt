@@ -3,7 +3,7 @@ use Rattle.std.proofs.lemmas.Result.{on_ok_weaker}
 use Rattle.std.specs.Prelude.{IfSome, option_map}
 use Rattle.json_value.specs.Denotes.{tree_of}
 use Rattle.json_value.specs.Edits.{edit_of}
-use Rattle.json_value.specs.Sights.{whole_value}
+use Rattle.json_value.specs.ViewTargets.{whole_value}
 use Rattle.json_history.specs.ChangeTrees.{tree_change_of}
 use Rattle.json_history.specs.SharedParts.{SharesParts}
 use Rattle.json_history.proofs.LogSteps.{no_change_no_edit}
@@ -15,7 +15,7 @@ use Rattle.json_history.proofs.steps.apply_and_log.Goals as goal
 pub returns-in-None-clause-ok : goal.returns-in-None-clause-ok
 returns-in-None-clause-ok c =
     on_ok_weaker c.apply_edit-in-None.result
-    (λ made. absurd (no_change_no_edit (tree_of c.args.value.now) (tree_of c.apply_edit-in-None.new.value) (edit_of c.args.edit) (ap (option_map tree_change_of) (sym c.in-None.is) ∙ c.in_ok-change.ensures.told) made))
+    (λ made. absurd (no_change_no_edit (tree_of c.args.value.now) (tree_of c.apply_edit-in-None.new.value) (edit_of c.args.edit) (ap (option_map tree_change_of) (sym c.in-None.is) ∙ c.in_ok-change.ensures.tree_change) made))
     c.apply_edit-in-None.ensures.ok
 
 pub returns-in_err-change-clause-kept_along : goal.returns-in_err-change-clause-kept_along
@@ -27,7 +27,7 @@ returns-in_err-reserve-in-Some-clause-kept_along c = anyway _ (edit_same c.args.
 pub returns-in-None-clause-shares : goal.returns-in-None-clause-shares
 returns-in-None-clause-shares c =
     on_ok_weaker c.apply_edit-in-None.result
-    (λ made. absurd (no_change_no_edit (tree_of c.args.value.now) (tree_of c.apply_edit-in-None.new.value) (edit_of c.args.edit) (ap (option_map tree_change_of) (sym c.in-None.is) ∙ c.in_ok-change.ensures.told) made))
+    (λ made. absurd (no_change_no_edit (tree_of c.args.value.now) (tree_of c.apply_edit-in-None.new.value) (edit_of c.args.edit) (ap (option_map tree_change_of) (sym c.in-None.is) ∙ c.in_ok-change.ensures.tree_change) made))
     c.apply_edit-in-None.ensures.ok
 
 pub returns-in_ok-push-in-Some-clause-shares : goal.returns-in_ok-push-in-Some-clause-shares

@@ -28,7 +28,7 @@ line-smaller g c =
     let a = run_state c.args.run.now.reader (g.S.Source.state c.args.source.now) (g.K.Sink.state c.args.sink.now) (g.E.Sink.state c.args.errs.now) c.args.tally.now in
     let b = run_state c.line.run.reader (g.S.Source.state c.line.source) (g.K.Sink.state c.line.sink) (g.E.Sink.state c.line.errs) c.line.tally in
     let m = run_state c.line.run.reader (g.S.Source.state c.line.source) (g.K.Sink.state c.send_before_read.new.sink) (g.E.Sink.state c.line.errs) c.line.tally in
-    let n = run_state c.step.new.run.reader (g.S.Source.state c.step.new.source) (g.K.Sink.state c.step.new.sink) (g.E.Sink.state c.step.new.errs) c.step.new.tally in
+    let n = run_state c.handle_next_line.new.run.reader (g.S.Source.state c.handle_next_line.new.source) (g.K.Sink.state c.handle_next_line.new.sink) (g.E.Sink.state c.handle_next_line.new.errs) c.handle_next_line.new.tally in
     HandledLines-smaller (has rows) a m n (HandledLines-sent (has rows) a b (g.K.Sink.state c.send_before_read.new.sink) tt c.line.invariant.handled c.in-Ok.ensures)
     (subst (λ r. StepResult (has r) m n true) c.line.invariant.same_rows (subst (StepResult (has c.line.run.room.rows.now) m n) c.in-Ok-true.field-0-test c.in-Ok-true.ensures.ok))
 
@@ -39,7 +39,7 @@ line-preserved g c =
     let a = run_state c.args.run.now.reader (g.S.Source.state c.args.source.now) (g.K.Sink.state c.args.sink.now) (g.E.Sink.state c.args.errs.now) c.args.tally.now in
     let b = run_state c.line.run.reader (g.S.Source.state c.line.source) (g.K.Sink.state c.line.sink) (g.E.Sink.state c.line.errs) c.line.tally in
     let m = run_state c.line.run.reader (g.S.Source.state c.line.source) (g.K.Sink.state c.send_before_read.new.sink) (g.E.Sink.state c.line.errs) c.line.tally in
-    let n = run_state c.step.new.run.reader (g.S.Source.state c.step.new.source) (g.K.Sink.state c.step.new.sink) (g.E.Sink.state c.step.new.errs) c.step.new.tally in
+    let n = run_state c.handle_next_line.new.run.reader (g.S.Source.state c.handle_next_line.new.source) (g.K.Sink.state c.handle_next_line.new.sink) (g.E.Sink.state c.handle_next_line.new.errs) c.handle_next_line.new.tally in
     record {
       handled = HandledLines-more (has rows) a m n (HandledLines-sent (has rows) a b (g.K.Sink.state c.send_before_read.new.sink) tt c.line.invariant.handled c.in-Ok.ensures)
           (subst (λ r. StepResult (has r) m n true) c.line.invariant.same_rows (subst (StepResult (has c.line.run.room.rows.now) m n) c.in-Ok-true.field-0-test c.in-Ok-true.ensures.ok));
@@ -53,17 +53,17 @@ returns-in-Ok-false-clause-ok g c =
     let a = run_state c.args.run.now.reader (g.S.Source.state c.args.source.now) (g.K.Sink.state c.args.sink.now) (g.E.Sink.state c.args.errs.now) c.args.tally.now in
     let b = run_state c.line.run.reader (g.S.Source.state c.line.source) (g.K.Sink.state c.line.sink) (g.E.Sink.state c.line.errs) c.line.tally in
     let m = run_state c.line.run.reader (g.S.Source.state c.line.source) (g.K.Sink.state c.send_before_read.new.sink) (g.E.Sink.state c.line.errs) c.line.tally in
-    let n = run_state c.step.new.run.reader (g.S.Source.state c.step.new.source) (g.K.Sink.state c.step.new.sink) (g.E.Sink.state c.step.new.errs) c.step.new.tally in
+    let n = run_state c.handle_next_line.new.run.reader (g.S.Source.state c.handle_next_line.new.source) (g.K.Sink.state c.handle_next_line.new.sink) (g.E.Sink.state c.handle_next_line.new.errs) c.handle_next_line.new.tally in
     FinishesLines-from (has rows) a m n (HandledLines-sent (has rows) a b (g.K.Sink.state c.send_before_read.new.sink) tt c.line.invariant.handled c.in-Ok.ensures)
     (subst (λ r. StepResult (has r) m n false) c.line.invariant.same_rows (subst (StepResult (has c.line.run.room.rows.now) m n) c.in-Ok-false.field-0-test c.in-Ok-false.ensures.ok))
 
-pub returns-in-Err-step-clause-err : goal.returns-in-Err-step-clause-err
-returns-in-Err-step-clause-err g c =
+pub returns-in-Err-handle_next_line-clause-err : goal.returns-in-Err-handle_next_line-clause-err
+returns-in-Err-handle_next_line-clause-err g c =
     let has = g.R.RowWriter.has_outcome in
     let rows = c.args.run.now.room.rows.now in
     let a = run_state c.args.run.now.reader (g.S.Source.state c.args.source.now) (g.K.Sink.state c.args.sink.now) (g.E.Sink.state c.args.errs.now) c.args.tally.now in
     let b = run_state c.line.run.reader (g.S.Source.state c.line.source) (g.K.Sink.state c.line.sink) (g.E.Sink.state c.line.errs) c.line.tally in
     let m = run_state c.line.run.reader (g.S.Source.state c.line.source) (g.K.Sink.state c.send_before_read.new.sink) (g.E.Sink.state c.line.errs) c.line.tally in
-    let n = run_state c.step.new.run.reader (g.S.Source.state c.step.new.source) (g.K.Sink.state c.step.new.sink) (g.E.Sink.state c.step.new.errs) c.step.new.tally in
-    fails (has rows) a m n c.in-Err-step.error (HandledLines-sent (has rows) a b (g.K.Sink.state c.send_before_read.new.sink) tt c.line.invariant.handled c.in-Ok.ensures)
-    (subst (λ r. StepFails (has r) m n c.in-Err-step.error) c.line.invariant.same_rows c.in-Err-step.ensures.err)
+    let n = run_state c.handle_next_line.new.run.reader (g.S.Source.state c.handle_next_line.new.source) (g.K.Sink.state c.handle_next_line.new.sink) (g.E.Sink.state c.handle_next_line.new.errs) c.handle_next_line.new.tally in
+    fails (has rows) a m n c.in-Err-handle_next_line.error (HandledLines-sent (has rows) a b (g.K.Sink.state c.send_before_read.new.sink) tt c.line.invariant.handled c.in-Ok.ensures)
+    (subst (λ r. StepFails (has r) m n c.in-Err-handle_next_line.error) c.line.invariant.same_rows c.in-Err-handle_next_line.ensures.err)

@@ -21,4 +21,4 @@ pub returns : goal.returns
 returns c =
     let l = c.args.literal.now in
     let h = subst (λ (d : List ℕ). IsIntegerLiteral (plain_of d) c.plain_integer.result) c.range_from.ensures.value c.plain_integer.ensures in
-    subst (λ (o : Option _). IsIntegerLiteral o c.negated.result) (sym (whole_minus l c.requires)) (c.negated.ensures (drop 1 l) h)
+    subst (λ (o : Option _). IsIntegerLiteral o c.negated_literal.result) (sym (whole_minus l c.requires)) (c.negated_literal.ensures (drop 1 l) h)

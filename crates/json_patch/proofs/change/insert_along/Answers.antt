@@ -18,7 +18,7 @@ returns-clause-ok g c =
     let f = with_child c.args.token.now (tree_of c.args.value) in
     let t = tree_of (g.V.Places.held c.args.target.now) in
     let put = (((rw c.in_ok-place.was at (c.place_mut.follows.holds c.insert_in.new.container)) refl).0) in
-    on_ok_weaker c.insert_in.result (λ e. changed_at_path p f t (tree_of c.in_ok-place.place.now) (tree_of c.insert_in.new.container) _ c.in_ok-place.ensures.stands e put) c.insert_in.ensures.ok
+    on_ok_weaker c.insert_in.result (λ e. changed_at_path p f t (tree_of c.in_ok-place.place.now) (tree_of c.insert_in.new.container) _ c.in_ok-place.ensures.leads e put) c.insert_in.ensures.ok
 
 pub returns-clause-refused : goal.returns-clause-refused
 returns-clause-refused g c =
@@ -26,7 +26,7 @@ returns-clause-refused g c =
     let f = with_child c.args.token.now (tree_of c.args.value) in
     let t = tree_of (g.V.Places.held c.args.target.now) in
     IfErr-weaker c.insert_in.result (λ e. RefusesChange (f (tree_of c.in_ok-place.place.now)) e.code e.place) (λ e. RefusesChange (at_path p f t) e.code e.place)
-    (λ e. refuses_so (f (tree_of c.in_ok-place.place.now)) (at_path p f t) (λ r h. change_refused_there p f t (tree_of c.in_ok-place.place.now) r c.in_ok-place.ensures.stands h) e.code e.place)
+    (λ e. refuses_so (f (tree_of c.in_ok-place.place.now)) (at_path p f t) (λ r h. change_refused_there p f t (tree_of c.in_ok-place.place.now) r c.in_ok-place.ensures.leads h) e.code e.place)
     c.insert_in.ensures.refused
 
 pub returns-clause-children : goal.returns-clause-children

@@ -1,6 +1,6 @@
 use Rattle.std.proofs.Common.{arith}
 use Rattle.json_scan.specs.Runs.{IsPlain}
-use Rattle.json_scan.proofs.RunEnds.{each_more, ends_within, ends_behind}
+use Rattle.json_scan.proofs.RunEnds.{each_more, ends_within, ends_after}
 use Rattle.json_scan.proofs.runs.plain_end_by_blocks.Goals as goal
 
 pub returns-then-count-lt-BLOCK : goal.returns-then-count-lt-BLOCK
@@ -15,4 +15,4 @@ scan-preserved c = record {
 }
 
 pub returns : goal.returns
-returns c = ends_behind IsPlain c.args.bytes.now c.args.from c.scan.at c.plain_end_by_half.result c.scan.invariant.order c.scan.invariant.each c.plain_end_by_half.ensures
+returns c = ends_after IsPlain c.args.bytes.now c.args.from c.scan.at c.plain_end_by_half.result c.scan.invariant.order c.scan.invariant.each c.plain_end_by_half.ensures

@@ -1,6 +1,6 @@
 use Rattle.std.proofs.Common.{◌+◌, arith}
 use Rattle.json_scan.specs.Runs.{IsPlain}
-use Rattle.json_scan.proofs.RunEnds.{each_none, ends_within, ends_behind}
+use Rattle.json_scan.proofs.RunEnds.{each_none, ends_within, ends_after}
 use Rattle.json_scan.proofs.runs.plain_end_by_half.Goals as goal
 
 pub returns-then-count-lt-HALF : goal.returns-then-count-lt-HALF
@@ -11,4 +11,4 @@ returns-then-count-lt-HALF c =
 pub returns : goal.returns
 returns c =
     let b = c.args.bytes.now in let at = c.args.from in
-    ends_behind IsPlain b at (at + 8) c.plain_end_by_quarter-2.result (omega arith) (λ k l m. c.plain_in_half-count.ensures.each k l (omega (arith, c.plain_in_half-count.ensures.few))) c.plain_end_by_quarter-2.ensures
+    ends_after IsPlain b at (at + 8) c.plain_end_by_quarter-2.result (omega arith) (λ k l m. c.plain_in_half-count.ensures.each k l (omega (arith, c.plain_in_half-count.ensures.few))) c.plain_end_by_quarter-2.ensures

@@ -1,6 +1,6 @@
 use Rattle.std.proofs.Common.{arith}
 use Rattle.json_grammar.specs.Grammar.{IsWhitespace}
-use Rattle.json_scan.proofs.RunEnds.{each_more, ends_within, ends_behind}
+use Rattle.json_scan.proofs.RunEnds.{each_more, ends_within, ends_after}
 use Rattle.json_scan.proofs.runs.ws_end_by_blocks.Goals as goal
 
 pub returns-then-count-lt-BLOCK : goal.returns-then-count-lt-BLOCK
@@ -15,4 +15,4 @@ scan-preserved c = record {
 }
 
 pub returns : goal.returns
-returns c = ends_behind IsWhitespace c.args.bytes.now c.args.from c.scan.at c.ws_end_of_few.result c.scan.invariant.order c.scan.invariant.each c.ws_end_of_few.ensures
+returns c = ends_after IsWhitespace c.args.bytes.now c.args.from c.scan.at c.ws_end_of_few.result c.scan.invariant.order c.scan.invariant.each c.ws_end_of_few.ensures

@@ -9,5 +9,5 @@ returns-then-is_low-clause-ok c = record {
   within = omega arith;
   leads =
       subst (λ v. Leads v c.args.bytes.now c.args.from (c.args.from + 11) finished) (sym c.if-not-lossy.true)
-      (pair_leads c.args.bytes.now c.args.from (omega arith) (c.is_high.ensures c.if-is_high.true) (c.is_low.ensures.0 c.if-is_low.true));
+      (pair_leads c.args.bytes.now c.args.from (omega arith) (c.is_high_half.ensures c.if-is_high_half.true) (c.is_low.ensures.0 c.if-is_low.true));
 }

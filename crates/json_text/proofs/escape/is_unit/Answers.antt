@@ -3,4 +3,4 @@ use Rattle.json_text.proofs.HexEscapes.{unit_to}
 use Rattle.json_text.proofs.escape.is_unit.Goals as goal
 
 pub returns : goal.returns
-returns c = λ lossy _. unit_to lossy c.args.bytes.now c.args.at c.unit_behind-unit.result c.requires (omega arith) (c.unit_behind-unit.ensures (omega arith)) (inr (omega arith))
+returns c = λ lossy _. unit_to lossy c.args.bytes.now c.args.at c.code_unit_after-unit.result c.requires (omega arith) (c.code_unit_after-unit.ensures (omega arith)) (inr (omega arith))

@@ -5,4 +5,4 @@ use Rattle.json_text.proofs.escape.is_usual.Goals as goal
 pub returns : goal.returns
 returns c = λ lossy t.
     let m = c.unit_limit.ensures in
-    usual_to lossy c.args.bytes.now c.args.at c.unit_behind.result c.unit_limit.result c.requires c.unit_behind.ensures m.long m.short (ltb-true _ _ t)
+    usual_to lossy c.args.bytes.now c.args.at c.code_unit_after.result c.unit_limit.result c.requires c.code_unit_after.ensures m.long m.short (ltb-true _ _ t)

@@ -1,4 +1,4 @@
-use Rattle.json_text.proofs.Stands.{stood_start}
+use Rattle.json_text.proofs.ReaderSteps.{stood_start}
 use Rattle.json_text.proofs.laws.reader_begins.Goals as goal
 
 pub returns : goal.returns

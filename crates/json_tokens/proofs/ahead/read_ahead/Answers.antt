@@ -1,6 +1,6 @@
 use Rattle.std.proofs.Common.{subst}
 use Rattle.json_text.specs.declared.event.Event.{Event}
-use Rattle.json_text.specs.Parsing.{Goes}
+use Rattle.json_text.specs.Parsing.{AdvancesTo}
 use Rattle.json_tokens.proofs.Events.{tree_over, reads_ahead, whole_over}
 use Rattle.json_tokens.proofs.ValueFaults.{has_fault}
 use Rattle.json_tokens.proofs.ahead.read_ahead.Goals as goal
@@ -8,7 +8,7 @@ use Rattle.json_tokens.proofs.ahead.read_ahead.Goals as goal
 pub unreachable-requires : goal.unreachable-requires
 unreachable-requires c =
     let i = c.requires.given in
-    let g = subst (λ (e : Event). Goes c.args.parser.now e c.next.new.self) c.in-End.is c.in-Ok.ensures.ok.2 in
+    let g = subst (λ (e : Event). AdvancesTo c.args.parser.now e c.next.new.self) c.in-End.is c.in-Ok.ensures.ok.2 in
     let t = g.1 i.0 i.1 in
     c.requires.whole (tree_over c.args.parser.now i.0 t.0 i.1 t.2)
 

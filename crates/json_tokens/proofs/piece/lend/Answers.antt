@@ -1,5 +1,5 @@
 use Rattle.std.proofs.Common.{IsSome, refl, sym, subst}
-use Rattle.json_tokens.proofs.Told.{not_some}
+use Rattle.json_tokens.proofs.KindTests.{not_some}
 use Rattle.json_tokens.proofs.piece.lend.Goals as goal
 
 pub returns-in-Some-clause-lent : goal.returns-in-Some-clause-lent

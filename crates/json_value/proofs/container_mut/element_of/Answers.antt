@@ -47,7 +47,7 @@ returns-in-None g c =
     in
     let past : length lent.items ≤ i = grind (arith, c.in-None.ensures.variant, lent.ok.0) in (
       (refl, (λ w never. search), element_not_put lent.items lent.items refl old _ after.1 i is after.0),
-      record { writes_back = tt; value = tt; refused = λ f. refused_as (at_path (index_step i ∷ []) f (tree_of old)) c.not_found.result not_found c.not_found.ensures (element_past (tree_of old) lent.items i is f past) },
+      record { writes_back = tt; value = tt; refused = λ f. refused_as (at_path (index_step i ∷ []) f (tree_of old)) c.not_found_error.result not_found c.not_found_error.ensures (element_past (tree_of old) lent.items i is f past) },
     )
 
 pub returns-in_err-list : goal.returns-in_err-list

@@ -52,7 +52,7 @@ returns-in-None g c =
     (rw c.in_ok-pairs.was at (c.pairs.follows.holds lent)) refl
     in (
       (refl, (λ w never. search), member_not_put lent.items lent.items refl old _ after.1 k is after.0),
-      (tt, λ f. refused_as (at_path (key_step k ∷ []) f (tree_of old)) c.not_found.result not_found c.not_found.ensures (member_missed (tree_of old) k lent.items is f none)),
+      (tt, λ f. refused_as (at_path (key_step k ∷ []) f (tree_of old)) c.not_found_error.result not_found c.not_found_error.ensures (member_missed (tree_of old) k lent.items is f none)),
     )
 
 pub returns-in_err-pairs : goal.returns-in_err-pairs

@@ -6,11 +6,11 @@ use Rattle.json_doc.specs.Left.{pairs_doc, places_of_pairs, pairs_left, doc_pair
 use Rattle.json_doc.specs.Seen.{view_doc, view_place, view_tree}
 use Rattle.json_value.specs.Denotes.{tree_of, pair_of, text_bytes}
 use Rattle.json_doc_print.specs.Readings.{text_said}
-use Rattle.json_value.specs.Spots.{spot_in, spot_of, spot_of_text, read_spot, member_spots, read_member_spots}
+use Rattle.json_value.specs.Positions.{position_in, doc_position, text_position, read_position, member_positions, read_member_positions}
 use Rattle.json_value.specs.declared.pair.Keyed.{Keyed}
 use Rattle.json_value.specs.declared.value.Value.{Value}
 use Rattle.json_value.proofs.Iterations.{joined_more, joined_all, no_first, nothing_mapped}
-use Rattle.json_value.proofs.PlacesRead.{member_read, member_stands}
+use Rattle.json_value.proofs.PlacesRead.{member_read, member_leads}
 use Rattle.json_value.proofs.object.unpack_members.Goals.{in-Some+in_default-next, in_default}
 use Rattle.json_value.proofs.object.unpack_members.Goals as goal
 
@@ -26,15 +26,15 @@ loop-key-preserved c =
     let value_doc : view_doc value ≡ d = steps.3 ∙ h.0 in
     let key_read : text_bytes m.key ≡ text_said (doc_tree d (view_place key)) = c.in_ok-key.ensures.text ∙ ap (λ (n : ℕ). text_said (doc_tree d n)) c.place.ensures.at in
     let read : tree_of m.value ≡ doc_tree d (view_place value) = c.in_ok-value.ensures.tree ∙ ap (doc_tree d) c.place-in-Some.ensures.at in
-    let key_spot : spot_of_text m.key ≡ Some (spot_in d (view_place key)) = c.in_ok-key.ensures.spot ∙ ap (λ (n : ℕ). Some (spot_in d n)) c.place.ensures.at in
-    let spot : spot_of m.value ≡ read_spot d (view_place value) = c.in_ok-value.ensures.spot ∙ ap (read_spot d) c.place-in-Some.ensures.at in
+    let key_spot : text_position m.key ≡ Some (position_in d (view_place key)) = c.in_ok-key.ensures.position ∙ ap (λ (n : ℕ). Some (position_in d n)) c.place.ensures.at in
+    let position : doc_position m.value ≡ read_position d (view_place value) = c.in_ok-value.ensures.position ∙ ap (read_position d) c.place-in-Some.ensures.at in
     let made = member_read d key value m k key_doc value_doc is key_read read in
-    let stands = member_stands d (view_place value) (view_place key) m (places_of_pairs new) (places_of_pairs old) steps.1 c.in-Some.ensures.place key_spot spot in
+    let stands = member_leads d (view_place value) (view_place key) m (places_of_pairs new) (places_of_pairs old) steps.1 c.in-Some.ensures.place key_spot position in
     let more = c.in_ok-push.ensures.items in
-    let r = read_member_spots d in (
+    let r = read_member_positions d in (
       steps.2 ∙ h.0,
       joined_more pair_of list c.push.new.self.items m (k, view_tree value) (pairs_left old) (pairs_left new) (pairs_left c.args.members) more h.1 steps.0 made,
-      joined_more member_spots list c.push.new.self.items m (r (view_place value)) (map r (places_of_pairs old)) (map r (places_of_pairs new)) (map r (places_of_pairs c.args.members)) more h.2 (ap (map r) steps.1) stands,
+      joined_more member_positions list c.push.new.self.items m (r (view_place value)) (map r (places_of_pairs old)) (map r (places_of_pairs new)) (map r (places_of_pairs c.args.members)) more h.2 (ap (map r) steps.1) stands,
     )
 
 pub returns-clause-pairs : goal.returns-clause-pairs
@@ -44,6 +44,6 @@ returns-clause-pairs c =
 
 pub returns-clause-spots : goal.returns-clause-spots
 returns-clause-spots c =
-    let old = c.loop-key.members in let r = read_member_spots c.args.doc.now.value in
+    let old = c.loop-key.members in let r = read_member_positions c.args.doc.now.value in
     let none : pairs_left old ≡ [] = elim c.match-key.branch [ in-Some+in_default-next w ↦ w.in_default-next.ensures.steps.0.0 | in_default w ↦ no_first (λ (p : List ℕ × Tree). text p.0) _ w.in_default.ensures.tree ] in
-    joined_all member_spots c.loop-key.list.items (map r (places_of_pairs old)) _ c.loop-key.invariant.2 (ap (map r) (nothing_mapped (doc_pair (pairs_doc old)) (places_of_pairs old) none))
+    joined_all member_positions c.loop-key.list.items (map r (places_of_pairs old)) _ c.loop-key.invariant.2 (ap (map r) (nothing_mapped (doc_pair (pairs_doc old)) (places_of_pairs old) none))

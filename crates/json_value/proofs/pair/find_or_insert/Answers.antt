@@ -35,5 +35,5 @@ returns-in_ok-push-in-None-clause-seated c =
     let none = none_moved k k c.as_slice.result.now items refl c.as_slice.ensures.value c.in-None.ensures.none in
     inr (
       c.len-i.ensures ∙ c.args.pairs.now.ok.0,
-      record { member = keyed_so c.in_ok-key-in-None.key Null; none = none; more = c.in_ok-push-in-None.ensures.items; is = (c.in_ok-key-in-None.ensures.spot, refl) },
+      record { member = keyed_so c.in_ok-key-in-None.key Null; none = none; more = c.in_ok-push-in-None.ensures.items; is = (c.in_ok-key-in-None.ensures.position, refl) },
     )

@@ -34,4 +34,4 @@ returns-in_ok-push-in-None-clause-children c =
     let k = text_bytes c.args.key.now in
     let items = c.args.pairs.now.items in
     let none = none_moved c.as_str.result.now k c.as_slice.result.now items c.as_str.ensures c.as_slice.ensures.value c.in-None.ensures.none in
-    inr (record { member = keyed_so c.in_ok-key-in-None.key c.args.value; none = none; more = c.in_ok-push-in-None.ensures.items; is = (c.in_ok-key-in-None.ensures.spot, refl) })
+    inr (record { member = keyed_so c.in_ok-key-in-None.key c.args.value; none = none; more = c.in_ok-push-in-None.ensures.items; is = (c.in_ok-key-in-None.ensures.position, refl) })

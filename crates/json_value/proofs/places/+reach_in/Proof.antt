@@ -57,7 +57,7 @@ use Rattle.json_value.proofs.Results.{ok_val, err_val, ok_out, err_out, ok_in, e
 use Rattle.json_value.proofs.LenderRelations.{so_then, so_none, so_self}
 use Rattle.json_value.proofs.LentNames.{no_place, each_ok}
 use Rattle.json_value.proofs.LentPaths.{fewer, put_end, seen_end, on_true, on_false, which}
-use Rattle.json_value.proofs.MissingPlaces.{one_step, stands_along, stands_first}
+use Rattle.json_value.proofs.MissingPlaces.{one_step, leads_along, leads_first}
 use Rattle.json_value.proofs.EditedValues.{exchanged_here, puts_along}
 use Rattle.json_value.proofs.RefusedCalls.{nothing_along, nothing_first}
 use Rattle.json_value.specs.contracts.places.reach_in as f
@@ -70,8 +70,8 @@ use Rattle.json_value.specs.contracts.places.first_place as g
 use Rattle.json_value.proofs.places.first_place.Met as first-met
 use Rattle.json_value.specs.contracts.container_mut.ValueContainerMut.TheImpl as impl
 use Rattle.json_value.proofs.container_mut.ValueContainerMut.TheImpl.Met as impl-met
-use Rattle.json_value.specs.contracts.places.rest_of as h
-use Rattle.json_value.proofs.places.rest_of.Met as rest-met
+use Rattle.json_value.specs.contracts.places.untaken as h
+use Rattle.json_value.proofs.places.untaken.Met as rest-met
 
 abbrev stayed : Stays f.ended.signature.params f.ended.kept
 stayed = (stay_dropped _ no, (stay_dropped _ yes, (stay_dropped _ yes, tt)))
@@ -173,7 +173,7 @@ module _ {M : Type 1} (𝓤 : Ura M) (𝓛 : Logic 𝓤) (𝓜 : Model 𝓤 𝓛
           let z3 : G3.Ghost = (((κ', tt), (y.0.1.1.0, tt), tt, (path, tt), (pv, tt)), tt) in
           nothing ! $ move ! (6 ∷ 0 ∷ []) $ join ! $ nothing ! $ move ! (5 ∷ 0 ∷ []) $ join ! $ join ! $
           use0 𝓛 (raw (fact 𝓤 (0 < length path.now))) (fact_i 𝓤 _ (emp 𝓤) more) $ move ! (1 ∷ 0 ∷ []) $ use2 𝓛 (raw (G3.pre z3)) (id⊢ 𝓤 _) $
-          calls_at ! (framed 𝓤 𝓛.H 𝓜 𝓣) G3 (rest-met.met 𝓤 𝓛 𝓜 𝓡 (code.calls-json_value::places::rest_of 𝓡.env wired)) z3 (and_then ! (get ! refl) (no_more !)) (λ k.
+          calls_at ! (framed 𝓤 𝓛.H 𝓜 𝓣) G3 (rest-met.met 𝓤 𝓛 𝓜 𝓡 (code.calls-json_value::places::untaken 𝓡.env wired)) z3 (and_then ! (get ! refl) (no_more !)) (λ k.
           use1 𝓛 (later (some (λ (rest : Bor (List PointerNode)). ((‵ (flft κ' y.0.1.1.0) ⊛ ‵ ftrue) ⊛ ‵ (P.own_val rest (k ∷ []))) ⊛ some (λ (ws : Lasts h.ended (κ', tt) (path, tt)). ‵ (lasts h.ended (κ', tt) (path, tt) ws) ⊛ raw (fact 𝓤 (rest.now ≡ prelude.drop 1 path.now)))))) (id⊢ 𝓤 _) $
           await ! tt $ pick ! (λ rest. split ! $ split ! $ split ! $ move ! (3 ∷ []) $ pick ! (λ ws3. split ! $ drop ! $ heard ! _ (λ shorter.
           move ! (2 ∷ []) $ peeks ! P _ (shows 𝓛 P) rest (k ∷ []) (λ is_rest.
@@ -195,7 +195,7 @@ module _ {M : Type 1} (𝓤 : Ura M) (𝓛 : Logic 𝓤) (𝓜 : Model 𝓤 𝓛
           (λ z n p q. no_place s (nothing_along path.now rest.now x.now z v.now n more shorter here (p refl)) q)) $
           suffices ! _ (ends_at 𝓛 f.ended stayed (f.clauses 𝓛 𝓜.mem 𝓡.returns) y0 i s (tt, (tt, (tt, tt))) (tt, (tt, (tt, tt)))) $
           nothing ! $ nothing ! $ join ! $ nothing ! $ join ! $ nothing ! $ join ! $ move ! (3 ∷ 0 ∷ 2 ∷ 1 ∷ []) $ group ! 3 $ frame ! $
-          says ! (stands_along path.now rest.now (tree_of v.now) (tree_of x.now) more shorter here s seen) $ done !))))))))))
+          says ! (leads_along path.now rest.now (tree_of v.now) (tree_of x.now) more shorter here s seen) $ done !))))))))))
 
 pub +reach_in_spec : {M : Type 1} → statement M
 unfolding tables_of
@@ -283,7 +283,7 @@ unfolding tables_of
           goes_on 𝓤 𝓛 𝓜 𝓡 wired y l x more here (λ z lt. below (μ z) (subst (λ (s : ℕ). μ z < s) is_t lt) z refl))
       | inr p ↦
           let x = p.0 in
-          let why : LeadsTo (steps_of path.now) (tree_of v.now) (Err x) = stands_first path.now (tree_of v.now) x more (subst (λ (r : R.Denot). LeadsTo (step ∷ []) (tree_of v.now) r) p.1 found) in
+          let why : LeadsTo (steps_of path.now) (tree_of v.now) (Err x) = leads_first path.now (tree_of v.now) x more (subst (λ (r : R.Denot). LeadsTo (step ∷ []) (tree_of v.now) r) p.1 found) in
           rewrite ! 0 (λ (r : R.Denot). ‵ (R.own_val r (o ∷ []))) p.1 refl $ rewrite ! 1 (λ (r : R.Denot). ‵ (LendsStep v step r)) p.1 refl $
           use1 𝓛 (given (o ∷ [] ≡ err_val κs.0 value refusal refusal_told x ∷ []) (‵ (refusal.own_val x (refusal_told.val x ∷ [])))) (err_out κs.0 value refusal refusal_told 𝓛 x (o ∷ [])) $ learn ! (λ is_x.
           use1 𝓛 (‵ (R.own_val (Err x) (err_val κs.0 value refusal refusal_told x ∷ []))) (err_in κs.0 value refusal refusal_told 𝓛 x) $

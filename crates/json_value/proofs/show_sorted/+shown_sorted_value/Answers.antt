@@ -9,7 +9,7 @@ use Rattle.json_layout.proofs.ShownParts.{added_shows, Adds-same, Shows-first, S
 use Rattle.json_value.specs.Denotes.{tree_of, pair_of, text_bytes}
 use Rattle.json_doc_print.specs.KeyOrder.{IsKeyOrder, numbers_in}
 use Rattle.json_value.specs.OwnedKeys.{numbers_from, owned_key}
-use Rattle.json_doc_print.specs.declared.key_order.Entry.{Entry}
+use Rattle.json_doc_print.specs.declared.key_order.IndexedMember.{IndexedMember}
 use Rattle.json_value.specs.declared.pair.Keyed.{Keyed}
 use Rattle.json_value.specs.declared.value.Value.{Value}
 use Rattle.json_doc_print.proofs.KeyFronts.{number_of, entry_there, entries_end}
@@ -27,11 +27,11 @@ use Rattle.json_value.proofs.show_sorted.+shown_sorted_value.Goals as goal
 abbrev member_in : List (Keyed Value) → ℕ → List ℕ × Tree
 member_in xs = paired (owned_key xs) (sorted_at (owned_tree xs))
 
-abbrev members_in : List (Keyed Value) → List Entry → List (List ℕ × Tree)
+abbrev members_in : List (Keyed Value) → List IndexedMember → List (List ℕ × Tree)
 members_in xs es = map (member_in xs) (numbers_in es)
 
 -- those from an entry on
-entry_left : (xs : List (Keyed Value)) (es : List Entry) (i : ℕ) (p : Keyed Value) → IsKeyOrder (owned_key xs) (numbers_from 0 (length xs)) (numbers_in es) → i < length es → p ≡ get_or xs (number_of es i) p
+entry_left : (xs : List (Keyed Value)) (es : List IndexedMember) (i : ℕ) (p : Keyed Value) → IsKeyOrder (owned_key xs) (numbers_from 0 (length xs)) (numbers_in es) → i < length es → p ≡ get_or xs (number_of es i) p
     → drop i (members_in xs es) ≡ sorted_pair (pair_of p) ∷ drop (i + 1) (members_in xs es)
 entry_left xs es i p is l e =
     there (members_in xs es) i (member_in xs (number_of es i)) (entry_there (member_in xs) es i l) ∙ ap (λ q. sorted_pair q ∷ drop (i + 1) (members_in xs es)) (item_at xs (number_of es i) p (entry_within xs es is i l) e)

@@ -5,4 +5,4 @@ use Rattle.json_doc_print.proofs.Walking.{walks_one}
 use Rattle.json_value.proofs.view.walk.Goals as goal
 
 pub returns-in-Absent : goal.returns-in-Absent
-returns-in-Absent g c = walks_one _ _ (ap (λ f. tree_given (form_seen f)) c.in-Absent.is) c.taken.ensures c.null.ensures
+returns-in-Absent g c = walks_one _ _ (ap (λ f. tree_given (form_seen f)) c.in-Absent.is) c.events_result.ensures c.null.ensures

@@ -15,14 +15,14 @@ returns-in_err-begin_list g c = writes_err (writes_stop c.in_err-begin_list.ensu
 pub loop-item-init : goal.loop-item-init
 loop-item-init g c = record {
   wrote = wrote c.in_ok-begin_list.ensures;
-  stand = list_begun g.E.Events.stand g.met.E.Events.moves (wrote c.in_ok-begin_list.ensures);
+  token_state = list_begun g.E.Events.token_state g.met.E.Events.moves (wrote c.in_ok-begin_list.ensures);
 }
 
 pub serialize-requires : goal.serialize-requires
-serialize-requires g c = λ f. list_takes c.loop-item.invariant.stand
+serialize-requires g c = λ f. list_takes c.loop-item.invariant.token_state
 
 pub end_list-requires : goal.end_list-requires
-end_list-requires g c = λ f. list_ends c.loop-item.invariant.stand
+end_list-requires g c = λ f. list_ends c.loop-item.invariant.token_state
 
 pub returns-in_err-serialize : goal.returns-in_err-serialize
 returns-in_err-serialize g c =
@@ -35,7 +35,7 @@ loop-item-preserved g c =
     let xs = c.args.items.now in let i = c.loop-item.item-index in let x = c.item-item.result in let f = g.T.Serialize.datum in
     let w = wrote c.in_ok-serialize.ensures in record {
       wrote = wrote_same (wrote_then c.loop-item.invariant.wrote w) (list_front_more f (take i xs) x ∙ ap (list_front f) (take_more xs i x c.loop-item-test.true c.item-item.is));
-      stand = list_more g.E.Events.stand (f x) g.met.E.Events.moves c.loop-item.invariant.stand w;
+      token_state = list_more g.E.Events.token_state (f x) g.met.E.Events.moves c.loop-item.invariant.token_state w;
     }
 
 pub returns : goal.returns

@@ -18,14 +18,14 @@ returns-in_err-begin_list g c = writes_err (writes_stop c.in_err-begin_list.ensu
 pub elements-init : goal.elements-init
 elements-init g c = record {
   wrote = wrote c.in_ok-begin_list.ensures;
-  stand = list_begun g.E.Events.stand g.met.E.Events.moves (wrote c.in_ok-begin_list.ensures);
+  token_state = list_begun g.E.Events.token_state g.met.E.Events.moves (wrote c.in_ok-begin_list.ensures);
 }
 
 pub serialize-requires : goal.serialize-requires
-serialize-requires g c = λ f. list_takes c.elements.invariant.stand
+serialize-requires g c = λ f. list_takes c.elements.invariant.token_state
 
 pub end_list-requires : goal.end_list-requires
-end_list-requires g c = λ f. list_ends c.elements.invariant.stand
+end_list-requires g c = λ f. list_ends c.elements.invariant.token_state
 
 pub returns-in_err-serialize-in-Some : goal.returns-in_err-serialize-in-Some
 returns-in_err-serialize-in-Some g c =
@@ -41,7 +41,7 @@ elements-preserved g c =
     let xs = elements_seen c.args.view in let i = c.elements.i in let x = seen c.in-Some.element in
     let w = wrote c.in_ok-serialize-in-Some.ensures in record {
       wrote = wrote_same (wrote_then c.elements.invariant.wrote w) (list_front_more tree_datum (take i xs) x ∙ ap (list_front tree_datum) (take_there xs i x c.in-Some.ensures.tree));
-      stand = list_more g.E.Events.stand (tree_datum x) g.met.E.Events.moves c.elements.invariant.stand w;
+      token_state = list_more g.E.Events.token_state (tree_datum x) g.met.E.Events.moves c.elements.invariant.token_state w;
     }
 
 pub returns : goal.returns

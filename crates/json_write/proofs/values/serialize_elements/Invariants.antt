@@ -9,5 +9,5 @@ use Rattle.json_write.proofs.values.serialize_elements.Given as goal
 abbrev pub invariant-elements : goal.invariant-elements
 invariant-elements g l = record {
   wrote : Wrote g.E.Events.after (g.E.Events.state l.fn.out) (g.E.Events.state l.out) (g.E.Events.failed l.fn.out) (g.E.Events.failed l.out) (list_front tree_datum (take l.i (elements_seen l.view)));
-  stand : InList (g.E.Events.stand (g.E.Events.state l.fn.out)).opened (g.E.Events.stand (g.E.Events.state l.out));
+  token_state : InList (g.E.Events.token_state (g.E.Events.state l.fn.out)).opened (g.E.Events.token_state (g.E.Events.state l.out));
 }

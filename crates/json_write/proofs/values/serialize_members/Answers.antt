@@ -8,23 +8,23 @@ use Rattle.json_write.proofs.TreeData.{drop_there, drop_all, none_there}
 use Rattle.json_write.proofs.Turns.{rows_begun, rows_key, rows_more, rows_take, rows_end, value_takes}
 use Rattle.json_write.proofs.values.serialize_members.Goals as goal
 
-pub returns-in_err-begin_rows : goal.returns-in_err-begin_rows
-returns-in_err-begin_rows g c = writes_err (writes_stop c.in_err-begin_rows.ensures _) (err_from_is_err_and c.from_residual.result c.from_residual.ensures.1)
+pub returns-in_err-begin_object : goal.returns-in_err-begin_object
+returns-in_err-begin_object g c = writes_err (writes_stop c.in_err-begin_object.ensures _) (err_from_is_err_and c.from_residual.result c.from_residual.ensures.1)
 
 pub members-init : goal.members-init
 members-init g c = record {
-  upto = rows_start (wrote c.in_ok-begin_rows.ensures) refl;
-  stand = rows_begun g.E.Events.stand g.met.E.Events.moves (wrote c.in_ok-begin_rows.ensures);
+  upto = rows_start (wrote c.in_ok-begin_object.ensures) refl;
+  token_state = rows_begun g.E.Events.token_state g.met.E.Events.moves (wrote c.in_ok-begin_object.ensures);
 }
 
 pub give_key-requires : goal.give_key-requires
-give_key-requires g c = λ f. rows_take c.members.invariant.stand
+give_key-requires g c = λ f. rows_take c.members.invariant.token_state
 
 pub serialize-requires : goal.serialize-requires
-serialize-requires g c = λ f. value_takes (rows_key g.E.Events.stand g.met.E.Events.moves c.members.invariant.stand (wrote c.in_ok-give_key-in-Some.ensures))
+serialize-requires g c = λ f. value_takes (rows_key g.E.Events.token_state g.met.E.Events.moves c.members.invariant.token_state (wrote c.in_ok-give_key-in-Some.ensures))
 
 pub end_rows-requires : goal.end_rows-requires
-end_rows-requires g c = λ f. rows_end c.members.invariant.stand
+end_rows-requires g c = λ f. rows_end c.members.invariant.token_state
 
 pub returns-in_err-give_key-in-Some : goal.returns-in_err-give_key-in-Some
 returns-in_err-give_key-in-Some g c =
@@ -46,7 +46,7 @@ members-preserved g c =
     let xs = members_seen c.args.view in
     let k = wrote c.in_ok-give_key-in-Some.ensures in let v = wrote c.in_ok-serialize-in-Some.ensures in record {
       upto = rows_next (c.in-Some.key.now, seen c.in-Some.value) c.members.invariant.upto (drop_there xs c.members.i _ c.in-Some.ensures.tree) refl k v;
-      stand = rows_more g.E.Events.stand (tree_datum (seen c.in-Some.value)) g.met.E.Events.moves (rows_key g.E.Events.stand g.met.E.Events.moves c.members.invariant.stand k) v;
+      token_state = rows_more g.E.Events.token_state (tree_datum (seen c.in-Some.value)) g.met.E.Events.moves (rows_key g.E.Events.token_state g.met.E.Events.moves c.members.invariant.token_state k) v;
     }
 
 pub returns : goal.returns

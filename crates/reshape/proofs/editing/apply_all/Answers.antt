@@ -15,7 +15,7 @@ overflow_add-number c = omega (arith, c.loop-edit.invariant.1, c.loop-edit-test.
 pub returns-in-Err-clause-refused : goal.returns-in-Err-clause-refused
 returns-in-Err-clause-refused c =
     let h = c.loop-edit.invariant in
-    rw (c.numbered.ensures.code, c.numbered.ensures.place) (refused_next _ _ _ _ _ _ _ _ c.loop-edit-test.true c.edit-item.is h.0 h.1 c.in-Err.ensures.refused)
+    rw (c.error_at_edit.ensures.code, c.error_at_edit.ensures.place) (refused_next _ _ _ _ _ _ _ _ c.loop-edit-test.true c.edit-item.is h.0 h.1 c.in-Err.ensures.refused)
 
 pub loop-edit-preserved : goal.loop-edit-preserved
 loop-edit-preserved c = let h = c.loop-edit.invariant in (applied_next _ _ _ _ _ _ c.loop-edit-test.true c.edit-item.is h.0 c.in-Ok.ensures.ok, ap (λ n. n + 1) h.1)

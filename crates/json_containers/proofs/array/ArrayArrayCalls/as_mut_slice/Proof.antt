@@ -24,7 +24,7 @@ use Rattle.std.proofs.result.Result.TheLaws.{the_row_laws as result_laws}
 use Rattle.json_io.specs.Errors.{no_memory}
 use Rattle.json_value.specs.Denotes.{tree_of, list_in}
 use Rattle.json_value.specs.Rows.{array_row, value_row, vec_row, owned}
-use Rattle.json_value.specs.Spots.{IsPlace}
+use Rattle.json_value.specs.Positions.{IsPlace}
 use Rattle.json_value.specs.Written.{FirstElements}
 use Rattle.json_value.specs.declared.container.Container.{Container}
 use Rattle.json_value.specs.declared.value.Value.{Value}

@@ -5,7 +5,7 @@ use Rattle.json_containers.proofs.array.ArrayArrayCalls.extend.Goals as goal
 
 pub returns-clause-children : goal.returns-clause-children
 returns-clause-children c =
-    record { first = c.in_ok-list.list.now.items; list = c.append.new.self; same = c.in_ok-list.ensures.list; unpacked = c.in_ok-list.ensures.children; is = refl; changed = (c.in_ok-copies.copies.items, c.in_ok-copies.ensures.stands, c.in_ok-append.ensures.items) }
+    record { first = c.in_ok-list.list.now.items; list = c.append.new.self; same = c.in_ok-list.ensures.list; unpacked = c.in_ok-list.ensures.children; is = refl; changed = (c.in_ok-copies.copies.items, c.in_ok-copies.ensures.origins, c.in_ok-append.ensures.items) }
 
 pub returns-in_err-copies-clause-kept : goal.returns-in_err-copies-clause-kept
 returns-in_err-copies-clause-kept c = anyway c.from_residual.result (array_as_it_was c.args.self.now)

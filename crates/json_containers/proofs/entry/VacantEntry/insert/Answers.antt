@@ -7,8 +7,8 @@ pub returns : goal.returns
 returns c =
     let e = c.args.self in
     let v = c.owned_mut-pairs.result.now in
-    let n = c.add.new.pairs in
-    let more = c.add.ensures.items ∙ ap (λ k. v.items ++ k ∷ []) c.new.ensures.member in
+    let n = c.add_member.new.pairs in
+    let more = c.add_member.ensures.items ∙ ap (λ k. v.items ++ k ∷ []) c.new.ensures.member in
     let m = c.index_mut.result.now in
-    let member = its_member v n e.key c.args.val c.add.ensures.block c.add.ensures.len more c.len-at.result c.len-at.ensures m c.index_mut.ensures.value in
-    ((refl, put_more v n e.key c.args.val c.add.ensures.block c.add.ensures.len more c.len-at.result c.len-at.ensures m c.index_mut.ensures.value e.object.now c.owned_mut-pairs.ensures.value e.reserved), record { writes_back = tt; value = c.value_mut.ensures.value ∙ ap value_in member })
+    let member = its_member v n e.key c.args.val c.add_member.ensures.block c.add_member.ensures.len more c.len-at.result c.len-at.ensures m c.index_mut.ensures.value in
+    ((refl, put_more v n e.key c.args.val c.add_member.ensures.block c.add_member.ensures.len more c.len-at.result c.len-at.ensures m c.index_mut.ensures.value e.object.now c.owned_mut-pairs.ensures.value e.reserved), record { writes_back = tt; value = c.value_mut.ensures.value ∙ ap value_in member })

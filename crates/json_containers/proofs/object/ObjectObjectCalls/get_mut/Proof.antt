@@ -17,11 +17,11 @@ use Rattle.json_value.specs.Denotes.{tree_of}
 use Rattle.json_io.specs.Errors.{no_memory}
 use Rattle.json_value.specs.Denotes.{pairs_in}
 use Rattle.json_value.specs.Rows.{object_row}
-use Rattle.json_value.specs.Spots.{IsPlace}
+use Rattle.json_value.specs.Positions.{IsPlace}
 use Rattle.std.specs.Borrow.{LendsSoOk, follows_so}
 use Rattle.json_containers.specs.Changed.{ObjectChanged, ObjectStays}
 use Rattle.json_value.specs.Touched.{AtMember}
-use Rattle.json_containers.specs.Members.{found}
+use Rattle.json_containers.specs.Members.{first_member_value}
 use Rattle.json_value.specs.Lending.{missing_as_none, lent_name, name_of_ok, IsReferenceLent, UnlessLent}
 use Rattle.json_containers.specs.Found.{Finds}
 use Rattle.json_value.proofs.LentNames.{place_ok, on_no_place}
@@ -41,8 +41,8 @@ use Rattle.json_value.proofs.value.Value.TheLaws.{the_row_laws as value_laws}
 use Rattle.json_containers.specs.contracts.object.ObjectObjectCalls.get_mut as f
 use Rattle.json_containers.proofs.object.ObjectObjectCalls.get_mut.Statement.{statement}
 use Rattle.json_containers.proofs.object.ObjectObjectCalls.get_mut.Code as code
-use Rattle.json_containers.specs.contracts.object.value_of as g
-use Rattle.json_containers.proofs.object.value_of.Met as first-met
+use Rattle.json_containers.specs.contracts.object.added_value as g
+use Rattle.json_containers.proofs.object.added_value.Met as first-met
 use Rattle.json_containers.specs.contracts.object.none_if_missing as h
 use Rattle.json_containers.proofs.object.none_if_missing.Met as second-met
 
@@ -64,9 +64,9 @@ get_mut_spec 𝓤 𝓛 𝓜 𝓡 wired =
     qed 𝓛 (raw (G.pre z) ∷ []) ∵
     enter ! _ _ _ _ _ $ alloc_all ! (λ l. pass_all ! refl ((tt, tt), (((global_laws.lawful 𝓛).typed alloc _ are.1.0).0, (((such_Lawful (ShrSlice (named 1) κs.1.0 (UInt w8)) (λ x. Utf8 x.now) (λ x cs. (tt, tt)) 𝓛 (shr_slice_Lawful 𝓛 (named 1) κs.1.0 (UInt w8))).typed path _ are.1.1.0).0, tt))) $
     sets ! (addr ! (through ! refl (stop !))) refl (tt, tt) $
-    calls_at ! (framed 𝓤 𝓛.H 𝓜 (tables 𝓤 𝓛.H 𝓜 𝓡 𝓡.env)) G (first-met.met 𝓤 𝓛 𝓜 𝓡 (code.calls-json_containers::object::value_of 𝓡.env wired)) z
+    calls_at ! (framed 𝓤 𝓛.H 𝓜 (tables 𝓤 𝓛.H 𝓜 𝓡 𝓡.env)) G (first-met.met 𝓤 𝓛 𝓜 𝓡 (code.calls-json_containers::object::added_value 𝓡.env wired)) z
     (and_then ! (get ! refl) (and_then ! (get ! refl) (and_then ! (get ! refl) (no_more !)))) (λ u.
-    use1 𝓛 (later (some (λ (r : R.Denot). ((‵ (flft κs.0 qs.0) ⊛ ‵ (flft κs.1.0 qs.1.0) ⊛ ‵ ftrue) ⊛ ‵ (R.own_val r (u ∷ []))) ⊛ some (λ (ws : Lasts g.ended κs a). ‵ (lasts g.ended κs a ws) ⊛ (‵ (LendsSoOk object_row value v r (λ n w. ObjectChanged (AtMember path.now (λ before after. after ≡ w)) v.now n) (λ n. ObjectStays v.now n)) ⊛ raw (fact 𝓤 (Finds ((IsPlace v.now → ⊥) → ⊥) (found path.now (pairs_in v.now)) r))))))) (id⊢ 𝓤 _) $
+    use1 𝓛 (later (some (λ (r : R.Denot). ((‵ (flft κs.0 qs.0) ⊛ ‵ (flft κs.1.0 qs.1.0) ⊛ ‵ ftrue) ⊛ ‵ (R.own_val r (u ∷ []))) ⊛ some (λ (ws : Lasts g.ended κs a). ‵ (lasts g.ended κs a ws) ⊛ (‵ (LendsSoOk object_row value v r (λ n w. ObjectChanged (AtMember path.now (λ before after. after ≡ w)) v.now n) (λ n. ObjectStays v.now n)) ⊛ raw (fact 𝓤 (Finds ((IsPlace v.now → ⊥) → ⊥) (first_member_value path.now (pairs_in v.now)) r))))))) (id⊢ 𝓤 _) $
     await ! tt $ pick ! (λ r. split ! $ split ! $ split ! $ move ! (2 ∷ []) $ peeks ! R _ (shows 𝓛 R) r (u ∷ []) (λ is.
     lands_as ! refl refl ((((result_laws F.row refusal ref-laws refusal_laws).lawful 𝓛).typed r (u ∷ []) is).0) $
     let G2 = triple_of 𝓛 h.signature (h.spec 𝓛 𝓜.mem 𝓡.returns) in
@@ -88,4 +88,4 @@ get_mut_spec 𝓤 𝓛 𝓜 𝓡 wired =
     rewrite ! 0 (λ (m : maybe.Option GName). ‵ (Named m)) (sym (ap lent_name same ∙ missing_name r)) refl $
     suffices ! _ (ends_at 𝓛 f.ended stayed c z o s (tt, (tt, (tt, tt))) (tt, (tt, (tt, tt)))) $
     -- [what is lent; the result; the first token; the second token and nothing]
-    move ! (2 ∷ 3 ∷ []) $ join ! $ nothing ! $ nothing ! $ join ! $ nothing ! $ join ! $ nothing ! $ join ! $ move ! (1 ∷ 0 ∷ 3 ∷ 2 ∷ []) $ group ! 3 $ frame ! $ frame ! $ use0 𝓛 (raw (fact 𝓤 (IfErr s (λ e. e ≡ no_memory)))) (fact_i 𝓤 _ (emp 𝓤) (subst (λ (s : O.Denot). IfErr s (λ e. e ≡ no_memory)) (sym same) (missing_only ((IsPlace v.now → ⊥) → ⊥) r (found path.now (pairs_in v.now)) seen))) $ use0 𝓛 (raw (fact 𝓤 ((IsPlace v.now → ⊥) → IsOk s))) (fact_i 𝓤 _ (emp 𝓤) (subst (λ (s : O.Denot). (IsPlace v.now → ⊥) → IsOk s) (sym same) (missing_free (IsPlace v.now → ⊥) r (found path.now (pairs_in v.now)) seen))) $ use0 𝓛 (raw (fact 𝓤 (IfOk s (λ o. option_map (λ (x : MutBor Value). tree_of x.now) o ≡ found path.now (pairs_in v.now))))) (fact_i 𝓤 _ (emp 𝓤) (subst (λ (s : O.Denot). IfOk s (λ o. option_map (λ (x : MutBor Value). tree_of x.now) o ≡ found path.now (pairs_in v.now))) (sym same) (missing_found ((IsPlace v.now → ⊥) → ⊥) r (found path.now (pairs_in v.now)) seen))) $ done !))))))))))))
+    move ! (2 ∷ 3 ∷ []) $ join ! $ nothing ! $ nothing ! $ join ! $ nothing ! $ join ! $ nothing ! $ join ! $ move ! (1 ∷ 0 ∷ 3 ∷ 2 ∷ []) $ group ! 3 $ frame ! $ frame ! $ use0 𝓛 (raw (fact 𝓤 (IfErr s (λ e. e ≡ no_memory)))) (fact_i 𝓤 _ (emp 𝓤) (subst (λ (s : O.Denot). IfErr s (λ e. e ≡ no_memory)) (sym same) (missing_only ((IsPlace v.now → ⊥) → ⊥) r (first_member_value path.now (pairs_in v.now)) seen))) $ use0 𝓛 (raw (fact 𝓤 ((IsPlace v.now → ⊥) → IsOk s))) (fact_i 𝓤 _ (emp 𝓤) (subst (λ (s : O.Denot). (IsPlace v.now → ⊥) → IsOk s) (sym same) (missing_free (IsPlace v.now → ⊥) r (first_member_value path.now (pairs_in v.now)) seen))) $ use0 𝓛 (raw (fact 𝓤 (IfOk s (λ o. option_map (λ (x : MutBor Value). tree_of x.now) o ≡ first_member_value path.now (pairs_in v.now))))) (fact_i 𝓤 _ (emp 𝓤) (subst (λ (s : O.Denot). IfOk s (λ o. option_map (λ (x : MutBor Value). tree_of x.now) o ≡ first_member_value path.now (pairs_in v.now))) (sym same) (missing_found ((IsPlace v.now → ⊥) → ⊥) r (first_member_value path.now (pairs_in v.now)) seen))) $ done !))))))))))))

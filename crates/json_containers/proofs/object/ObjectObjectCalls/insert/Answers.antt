@@ -8,7 +8,7 @@ use Rattle.json_value.specs.Denotes.{tree_of, pair_of}
 use Rattle.json_value.specs.Rows.{owned, keyed_so}
 use Rattle.json_value.specs.Written.{with_value}
 use Rattle.json_value.proofs.AppliedTrees.{anyway, first_moved, none_moved, insert_over, insert_beside}
-use Rattle.json_containers.specs.Members.{found}
+use Rattle.json_containers.specs.Members.{first_member_value}
 use Rattle.json_containers.proofs.Keys.{value_read, none_found, first_within}
 use Rattle.json_containers.proofs.Put.{value_got, no_value}
 use Rattle.json_containers.proofs.Stays.{object_as_it_was, object_unpacked}
@@ -26,7 +26,7 @@ returns-in-Some-clause-before c =
     let k = c.args.key.now in
     let ms = c.in_ok-pairs.pairs.now.items in
     let first = first_moved k k c.as_slice.result.now ms c.in-Some.at refl c.as_slice.ensures.value c.in-Some.ensures.first in
-    ap (λ v. Some (tree_of v)) (c.replace.ensures.value ∙ c.value_mut.ensures.value) ∙ value_read k ms c.in-Some.at c.index_mut.result.now c.index_mut.ensures.value first ∙ ap (found k) c.in_ok-pairs.ensures.pairs
+    ap (λ v. Some (tree_of v)) (c.replace.ensures.value ∙ c.value_mut.ensures.value) ∙ value_read k ms c.in-Some.at c.index_mut.result.now c.index_mut.ensures.value first ∙ ap (first_member_value k) c.in_ok-pairs.ensures.pairs
 
 pub returns-in_ok-push-in-None-clause-ok : goal.returns-in_ok-push-in-None-clause-ok
 returns-in_ok-push-in-None-clause-ok c =
@@ -41,7 +41,7 @@ returns-in_ok-push-in-None-clause-before c =
     let k = c.args.key.now in
     let ms = c.in_ok-pairs.pairs.now.items in
     let none = none_moved k k c.as_slice.result.now ms refl c.as_slice.ensures.value c.in-None.ensures.none in
-    sym (none_found k (map pair_of ms) none) ∙ ap (found k) c.in_ok-pairs.ensures.pairs
+    sym (none_found k (map pair_of ms) none) ∙ ap (first_member_value k) c.in_ok-pairs.ensures.pairs
 
 pub returns-in-Some-clause-children : goal.returns-in-Some-clause-children
 returns-in-Some-clause-children c =
@@ -75,7 +75,7 @@ returns-in_ok-push-in-None-clause-children c =
       is = refl;
       changed = (
         no_value k ms none,
-        inr (record { member = keyed_so c.in_ok-key-in-None.key c.args.value; none = none; more = c.in_ok-push-in-None.ensures.items ∙ ap (λ m. ms ++ m ∷ []) c.new.ensures.member; is = (c.in_ok-key-in-None.ensures.spot, refl) }),
+        inr (record { member = keyed_so c.in_ok-key-in-None.key c.args.value; none = none; more = c.in_ok-push-in-None.ensures.items ∙ ap (λ m. ms ++ m ∷ []) c.new.ensures.member; is = (c.in_ok-key-in-None.ensures.position, refl) }),
       );
     }
 

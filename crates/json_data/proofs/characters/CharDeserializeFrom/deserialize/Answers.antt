@@ -21,4 +21,4 @@ pub returns-clause-err : goal.returns-clause-err
 returns-clause-err g c =
     let t = c.in_ok-piece.ensures.ok in
     let e : c.as_str.result.now ≡ t.0 = c.as_str.ensures.value ∙ sym (c.in_ok-text.ensures.ok t.0 t.1) in
-    mismatch c.refusal-in-None.ensures (peek_tree c.in_ok-peek.ensures.ok c.in_ok-peek.ensures.none t.2) (none_read t.0 (subst (λ (b : List ℕ). length (chars b) ≢ 1) e c.in-None.ensures))
+    mismatch c.error_without_place-in-None.ensures (peek_tree c.in_ok-peek.ensures.ok c.in_ok-peek.ensures.none t.2) (none_read t.0 (subst (λ (b : List ℕ). length (chars b) ≢ 1) e c.in-None.ensures))

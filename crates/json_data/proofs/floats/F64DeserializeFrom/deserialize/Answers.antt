@@ -18,7 +18,7 @@ returns-in-Some-clause-ok g c =
 
 pub returns-in-None-clause-err : goal.returns-in-None-clause-err
 returns-in-None-clause-err g c =
-    out_of_range c.refusal.ensures (peek_tree c.in_ok-kind.ensures.ok c.in_ok-kind.ensures.none c.in_ok-n.ensures.ok) (float_beyond binary64 _ _ c.integer_f64.ensures c.in-None.is)
+    out_of_range c.error_without_place.ensures (peek_tree c.in_ok-kind.ensures.ok c.in_ok-kind.ensures.none c.in_ok-n.ensures.ok) (float_beyond binary64 _ _ c.integer_f64.ensures c.in-None.is)
 
 pub returns-in-Some-f64_of-clause-ok : goal.returns-in-Some-f64_of-clause-ok
 returns-in-Some-f64_of-clause-ok g c =
@@ -32,5 +32,5 @@ returns-in-Some-f64_of-clause-ok g c =
 pub returns-in-None-f64_of-clause-err : goal.returns-in-None-f64_of-clause-err
 returns-in-None-f64_of-clause-err g c =
     let l = g.S.Lent.bytes c.in_ok-literal.literal in
-    out_of_range c.refusal-in-None-f64_of.ensures (peek_tree c.in_ok-kind.ensures.ok c.in_ok-kind.ensures.none c.in_ok-literal.ensures.ok)
+    out_of_range c.error_without_place-in-None-f64_of.ensures (peek_tree c.in_ok-kind.ensures.ok c.in_ok-kind.ensures.none c.in_ok-literal.ensures.ok)
     (float_beyond binary64 l _ (c.f64_of.ensures.double ∙ ap (float_in binary64) c.as_text.ensures) c.in-None-f64_of.is)

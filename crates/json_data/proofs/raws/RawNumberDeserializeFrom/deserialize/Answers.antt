@@ -6,7 +6,7 @@ use Rattle.json_grammar.proofs.NumberRuns.{number_ends}
 use Rattle.json_grammar.proofs.NumberScan.{ended_whole}
 use Rattle.json_model.specs.Datum.{literal_datum}
 use Rattle.json_number.specs.Numbers.{text_of_number}
-use Rattle.json_number.specs.Tests.{is_number}
+use Rattle.json_number.specs.Tests.{is_number_text}
 use Rattle.json_number.proofs.Literals.{number_from_test}
 use Rattle.json_io.specs.declared.error.Error.{Error}
 use Rattle.json_io.specs.declared.error.ErrorCode.TheVariants.{TypeUnmatched}
@@ -16,12 +16,12 @@ use Rattle.json_data.proofs.Exits.{mismatch}
 use Rattle.json_data.proofs.raws.RawNumberDeserializeFrom.deserialize.Goals as goal
 
 text_taken : (s : List ℕ) → number s → read_literal (text s) ≡ gives (literal_datum s)
-text_taken s n = let e : is_number s ≡ true = ended_whole (number_run at_start s) (number_ends s n) in rw e
+text_taken s n = let e : is_number_text s ≡ true = ended_whole (number_run at_start s) (number_ends s n) in rw e
 
 text_refused : (s : List ℕ) → ¬ (number s) → read_literal (text s) ≡ refuses TypeUnmatched
-text_refused s n = by (is_number s) refl
+text_refused s n = by (is_number_text s) refl
   where
-    by : (b : Bool) → is_number s ≡ b → read_literal (text s) ≡ refuses TypeUnmatched
+    by : (b : Bool) → is_number_text s ≡ b → read_literal (text s) ≡ refuses TypeUnmatched
     by true e = absurd (n (number_from_test s e))
     by false e = rw e
 
@@ -51,4 +51,4 @@ returns-clause-err g c =
     let t = c.in_ok-piece.ensures.ok in
     let e : c.as_str.result.now ≡ t.0 = c.as_str.ensures.value ∙ sym (c.in_ok-text.ensures.ok t.0 t.1) in
     let n : ¬ (number t.0) = elim c.in-Err.ensures.err [ inl x ↦ subst (λ (s : List ℕ). ¬ (number s)) e x.1 | inr x ↦ absurd (c.in_default.not-NoMemory (ap (λ (z : Error). z.code) x.0)) ] in
-    mismatch c.refusal-in_default.ensures (peek_tree c.in_ok-kind.ensures.ok c.in_ok-kind.ensures.none t.2) (text_refused t.0 n)
+    mismatch c.error_without_place-in_default.ensures (peek_tree c.in_ok-kind.ensures.ok c.in_ok-kind.ensures.none t.2) (text_refused t.0 n)

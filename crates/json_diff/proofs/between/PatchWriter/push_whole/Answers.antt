@@ -13,4 +13,4 @@ returns-clause-ok c =
     let new = c.push_value.new.self in
     let t = seen c.args.from in
     let u = seen c.args.to in
-    on_ok_weaker c.push_value.result (λ h. writes_as old new (replace [] u ∷ []) (whole t u) (whole_of_others t u (sym c.if-branch.false ∙ c.in_ok-are_same.ensures.ok)) (writes_replaced old new u h)) c.push_value.ensures.ok
+    on_ok_weaker c.push_value.result (λ h. writes_as old new (replace [] u ∷ []) (whole t u) (whole_of_others t u (sym c.if-branch.false ∙ c.in_ok-are_equal.ensures.ok)) (writes_replaced old new u h)) c.push_value.ensures.ok

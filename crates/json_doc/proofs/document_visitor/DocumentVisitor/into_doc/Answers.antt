@@ -1,6 +1,6 @@
 use Rattle.std.proofs.Common.{◌≡◌, arith, string_bytes}
 use Rattle.json_doc.proofs.Segments.{node_some}
-use Rattle.json_doc.proofs.Finishing.{finished, stands_for, in_place}
+use Rattle.json_doc.proofs.Finishing.{finished, is_there_for, in_place}
 use Rattle.json_doc.proofs.document_visitor.DocumentVisitor.into_doc.Goals as goal
 
 pub invariant_of-result : goal.invariant_of-result
@@ -18,4 +18,4 @@ pub returns : goal.returns
 returns c t h =
     let s = c.args.self in
     let bytes : string_bytes c.from_utf8_unchecked-text.result ≡ s.text.items = cc in
-    rw bytes (stands_for s.cells.items s.text.items s.parent s.count t h)
+    rw bytes (is_there_for s.cells.items s.text.items s.parent s.count t h)

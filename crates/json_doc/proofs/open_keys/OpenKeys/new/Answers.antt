@@ -1,5 +1,5 @@
-use Rattle.json_doc.proofs.NameSets.{stand_start}
+use Rattle.json_doc.proofs.NameSets.{state_start}
 use Rattle.json_doc.proofs.open_keys.OpenKeys.new.Goals as goal
 
 pub returns : goal.returns
-returns c = stand_start _ _ _ c.new.ensures.items c.new-2.ensures.empty c.new-3.ensures.items
+returns c = state_start _ _ _ c.new.ensures.items c.new-2.ensures.empty c.new-3.ensures.items

@@ -19,7 +19,7 @@ returns-then-i-len c =
     let is = c.place_from.ensures.is in
     record {
       within = c.place_from.ensures.within;
-      behind = omega (arith, is, place_up (doc_cells d) (doc_text d) 1 (s.at + 2) c.args.i d.in_place);
+      after = omega (arith, is, place_up (doc_cells d) (doc_text d) 1 (s.at + 2) c.args.i d.in_place);
       keyed = rw is (all_keyed d s.at c.cell.result s.inside c.cell.ensures c.in-Object.link c.in-Object.len c.in-Object.is c.args.i c.if-i-len.true);
       place = is ∙ object_child d s.at c.cell.result s.inside c.cell.ensures c.in-Object.link c.in-Object.len c.args.i c.in-Object.is;
       value = ap (λ (k : ℕ). Some (doc_tree d k)) is
@@ -34,7 +34,7 @@ returns-else-i-len c =
     let d = s.doc.now in
     record {
       within = tt;
-      behind = tt;
+      after = tt;
       keyed = tt;
       place = tt;
       value = sym (ap (λ (ts : List Tree). slice_get ts c.args.i) (values_at d s.at c.cell.result s.inside c.cell.ensures c.in-Object.link c.in-Object.len c.in-Object.is) ∙ past-of_places (doc_tree d) (doc_cells d) 1 (s.at + 2) c.in-Object.len c.args.i c.if-i-len.false);
@@ -46,7 +46,7 @@ returns-in_default c =
     let s = c.args.self in
     record {
       within = tt;
-      behind = tt;
+      after = tt;
       keyed = tt;
       place = tt;
       value = sym (ap (λ (ts : List Tree). slice_get ts c.args.i) (no_values_at s.doc.now s.at c.cell.result s.inside c.cell.ensures c.in_default.not-Object));

@@ -1,5 +1,5 @@
 use Rattle.std.proofs.Common.{map, take, drop}
-use Rattle.json_layout.specs.Buffered.{held_behind}
+use Rattle.json_layout.specs.Buffered.{held_after}
 use Rattle.json_doc.specs.Seen.{view_tree}
 use Rattle.json_lines.specs.Tables.{table_column}
 use Rattle.json_lines.proofs.CellWriting.{WritesCells}
@@ -7,6 +7,6 @@ use Rattle.json_lines.proofs.table.Table.write_cells.Given as goal
 
 abbrev pub invariant-cells : goal.invariant-cells
 invariant-cells g l =
-    WritesCells (held_behind (g.W.Sink.state l.fn.out.inner) (drop l.fn.out.sent (take l.fn.out.end l.fn.out.buffer.items)))
-    (held_behind (g.W.Sink.state l.out.inner) (drop l.out.sent (take l.out.end l.out.buffer.items)))
+    WritesCells (held_after (g.W.Sink.state l.fn.out.inner) (drop l.fn.out.sent (take l.fn.out.end l.fn.out.buffer.items)))
+    (held_after (g.W.Sink.state l.out.inner) (drop l.out.sent (take l.out.end l.out.buffer.items)))
     l.first (map table_column (take l.column-index l.column-items)) (view_tree l.fn.view)

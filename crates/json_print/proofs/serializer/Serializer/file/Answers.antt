@@ -1,11 +1,11 @@
 use Rattle.std.proofs.Common.{◌∷◌, ap, refl}
-use Rattle.json_print.specs.Printer.{Out, filed}
+use Rattle.json_print.specs.Printer.{SerializerState, filed}
 use Rattle.json_print.specs.Serializing.{out_of}
 use Rattle.json_print.proofs.Layers.{innermost, changed_in}
 use Rattle.json_print.proofs.serializer.Serializer.file.Goals as goal
 
 pub returns-in-Ok : goal.returns-in-Ok
 returns-in-Ok g c =
-    let old : Out g.row.F.Denot = out_of g.W.Sink.state c.args.self.now in
+    let old : SerializerState g.row.F.Denot = out_of g.W.Sink.state c.args.self.now in
     let h = innermost c.args.self.now.objects.items _ _ c.in-Some.object.now c.args.self.now.objects.ok.0 (c.in-Some.ensures.variant.0 refl) refl c.in-Some.ensures.value in
     record { ok = changed_in old filed c.in-Some.object.now _ h.outer _ h.there (h.changed _) (ap (λ x. x ∷ h.outer) c.in-Ok.ensures.ok); goes = c.requires; stops = tt }

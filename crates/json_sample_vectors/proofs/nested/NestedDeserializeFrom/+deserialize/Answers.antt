@@ -7,7 +7,7 @@ use Rattle.json_data.specs.Reading.{gives, gives_all, as_list}
 use Rattle.json_data.proofs.Lists.{opens, peeks_on, one_more, closes, join, more-gives, stopped}
 use Rattle.json_data.proofs.Exits.{stop_in}
 use Rattle.json_tokens.proofs.Steps.{peek_tree, peek_kind}
-use Rattle.json_tokens.proofs.Told.{is_kind-ne}
+use Rattle.json_tokens.proofs.KindTests.{is_kind-ne}
 use Rattle.json_model.specs.Datum.{Datum, list_datum, list_data}
 use Rattle.json_sample_vectors.specs.declared.nested.Nested.{Nested, fold-roll-Nested}
 use Rattle.json_sample_vectors.specs.declared.nested.Nested.TheOpen.{Nested-F}

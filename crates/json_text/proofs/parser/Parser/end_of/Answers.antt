@@ -25,7 +25,7 @@ new_at-requires c =
     let whole : length b ≡ length c.args.self.now.text = ap length same ∙ ap (λ (p : ParserState). length p.text) c.self.view_is in
     let within = c.next_place-at.ensures.within in
     let some : k < length b = omega arith in
-    let byte : get_or b k 0 ≡ closing c.args.kind = c.if-bytes-at.false ∙ c.closing.ensures in
+    let byte : get_or b k 0 ≡ closing c.args.kind = c.if-bytes-at.false ∙ c.closing_byte.ensures in
     let ascii : get_or b k 0 < 128 = omega (arith, closing_is_ascii c.args.kind) in
     record { boundary = subst (λ y. IsCharBoundary y (k + 1)) same (IsCharBoundary-after_ascii b k c.as_bytes-bytes.ensures.utf8 some ascii); most = c.self.invariant.most }
 

@@ -1,7 +1,7 @@
 use Rattle.std.proofs.Common.{refl, [], drop, arith}
-use Rattle.json_grammar.specs.declared.Spot.TheVariants.{Value as at_value}
+use Rattle.json_grammar.specs.declared.ExpectedPart.TheVariants.{Value as at_value}
 use Rattle.json_text.proofs.Going.{from_rest}
-use Rattle.json_text.proofs.Stands.{stood_start}
+use Rattle.json_text.proofs.ReaderSteps.{stood_start}
 use Rattle.json_text.proofs.parser.Parser.new_at.Goals as goal
 
 pub invariant_of-result : goal.invariant_of-result

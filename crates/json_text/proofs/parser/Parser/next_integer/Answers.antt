@@ -1,7 +1,7 @@
 use Rattle.std.proofs.Common.{◌≡◌, ◌∙◌, ◌≤◌, [], ◌∷◌, ◌++◌, length, true, IsUtf8, Option, None, IfSome, refl, sym, ap, subst, arith, rules}
 use Rattle.std.proofs.lemmas.Bool.{both_ways}
 use Rattle.std.specs.Str.{all_ascii_digits}
-use Rattle.json_grammar.specs.declared.Spot.TheVariants.{Done as done}
+use Rattle.json_grammar.specs.declared.ExpectedPart.TheVariants.{Done as done}
 use Rattle.json_grammar.specs.Given.{piece}
 use Rattle.json_grammar.specs.Place.{TakesValue}
 use Rattle.json_grammar.specs.Tree.{num_token}
@@ -12,8 +12,8 @@ use Rattle.json_text.specs.Faults.{IsInValue}
 use Rattle.json_text.specs.Nexts.{IsShortInteger}
 use Rattle.json_text.specs.Numbers.{NumberTo}
 use Rattle.json_text.specs.Parsing.{ParserState}
-use Rattle.json_text.specs.Standing.{Stood}
-use Rattle.json_text.proofs.Behind.{event_reads}
+use Rattle.json_text.specs.Readers.{ReaderAt}
+use Rattle.json_text.proofs.ValueEnds.{event_reads}
 use Rattle.json_text.proofs.Going.{to_rest, from_rest, within_text, takes_token}
 use Rattle.json_text.proofs.Integers.{begins_digit}
 use Rattle.json_text.proofs.Tokens.{stood_number, number_cut, number_cut_from, tight_number}
@@ -24,29 +24,29 @@ use Rattle.json_text.proofs.parser.Parser.next_integer.Goals as goal
 pub range-requires-clause-start_boundary : goal.range-requires-clause-start_boundary
 range-requires-clause-start_boundary c =
     let b = c.self.inside.rest.now in
-    let n = subst (λ b. NumberTo b c.in-Ok.stand.at c.in-Some.digits.end) c.as_bytes-bytes.ensures.value c.in-Some.ensures.number in
-    let d = subst (λ b. all_ascii_digits (piece b c.in-Ok.stand.at c.in-Some.digits.end) ≡ true) c.as_bytes-bytes.ensures.value c.in-Some.ensures.digits in
+    let n = subst (λ b. NumberTo b c.in-Ok.part_start.at c.in-Some.digits.end) c.as_bytes-bytes.ensures.value c.in-Some.ensures.number in
+    let d = subst (λ b. all_ascii_digits (piece b c.in-Ok.part_start.at c.in-Some.digits.end) ≡ true) c.as_bytes-bytes.ensures.value c.in-Some.ensures.digits in
     let s = c.in-Some.ensures.some in
     let w = n.at.within in
-    λ _. number_cut_from b c.in-Ok.stand.at (omega arith) (begins_digit b c.in-Ok.stand.at c.in-Some.digits.end s.0 w d)
+    λ _. number_cut_from b c.in-Ok.part_start.at (omega arith) (begins_digit b c.in-Ok.part_start.at c.in-Some.digits.end s.0 w d)
 
 pub range-requires-clause-end_boundary : goal.range-requires-clause-end_boundary
 range-requires-clause-end_boundary c =
     let b = c.self.inside.rest.now in
-    let n = subst (λ b. NumberTo b c.in-Ok.stand.at c.in-Some.digits.end) c.as_bytes-bytes.ensures.value c.in-Some.ensures.number in
-    let d = subst (λ b. all_ascii_digits (piece b c.in-Ok.stand.at c.in-Some.digits.end) ≡ true) c.as_bytes-bytes.ensures.value c.in-Some.ensures.digits in
+    let n = subst (λ b. NumberTo b c.in-Ok.part_start.at c.in-Some.digits.end) c.as_bytes-bytes.ensures.value c.in-Some.ensures.number in
+    let d = subst (λ b. all_ascii_digits (piece b c.in-Ok.part_start.at c.in-Some.digits.end) ≡ true) c.as_bytes-bytes.ensures.value c.in-Some.ensures.digits in
     let s = c.in-Some.ensures.some in
     let w = n.at.within in
     let u : IsUtf8 b = search rules in
-    number_cut b c.in-Ok.stand.at c.in-Some.digits.end u (omega arith) (begins_digit b c.in-Ok.stand.at c.in-Some.digits.end s.0 w d) n
+    number_cut b c.in-Ok.part_start.at c.in-Some.digits.end u (omega arith) (begins_digit b c.in-Ok.part_start.at c.in-Some.digits.end s.0 w d) n
 
 pub invariant_of-self : goal.invariant_of-self
 invariant_of-self c =
-    let s = c.self.inside in let v = c.self.invariant in let i = v.given in let g = c.as_bytes-bytes.ensures.value in let st = c.in-Ok.stand in let b = c.as_bytes-bytes.result.now in
+    let s = c.self.inside in let v = c.self.invariant in let i = v.given in let g = c.as_bytes-bytes.ensures.value in let st = c.in-Ok.part_start in let b = c.as_bytes-bytes.result.now in
     let e = c.in-Some.digits.end in
-    let r = c.in-Ok.ensures.ok s.lossy s.limit i.0 (to_rest s.lossy s.limit s.start s.at s.text.now b s.kinds s.spot i.0 (g ∙ v.rest_is) i.1) in
-    let t : TakesValue st.spot = c.takes_value.ensures.0 (search rules) in
-    let x = stood_number s.lossy s.limit b st.at e s.kinds st.spot i.0 r t c.in-Some.ensures.number in
+    let r = c.in-Ok.ensures.ok s.lossy s.limit i.0 (to_rest s.lossy s.limit s.start s.at s.text.now b s.kinds s.expected i.0 (g ∙ v.rest_is) i.1) in
+    let t : TakesValue st.expected = c.takes_value.ensures.0 (search rules) in
+    let x = stood_number s.lossy s.limit b st.at e s.kinds st.expected i.0 r t c.in-Some.ensures.number in
     let o = v.order in
     let w = v.within in
     let n = c.in-Some.ensures.number.at.within in
@@ -63,20 +63,20 @@ invariant_of-self c =
 
 pub returns-clause-ok : goal.returns-clause-ok
 returns-clause-ok c =
-    let s = c.self.inside in let v = c.self.invariant in let g = c.as_bytes-bytes.ensures.value in let st = c.in-Ok.stand in let b = c.as_bytes-bytes.result.now in
+    let s = c.self.inside in let v = c.self.invariant in let g = c.as_bytes-bytes.ensures.value in let st = c.in-Ok.part_start in let b = c.as_bytes-bytes.result.now in
     let e = c.in-Some.digits.end in
-    let t : TakesValue st.spot = c.takes_value.ensures.0 (search rules) in
+    let t : TakesValue st.expected = c.takes_value.ensures.0 (search rules) in
     rw (← c.self.view_is)
     (λ ts h.
-    let r = c.in-Ok.ensures.ok s.lossy s.limit ts (to_rest s.lossy s.limit s.start s.at s.text.now b s.kinds s.spot ts (g ∙ v.rest_is) h) in
-    let x = stood_number s.lossy s.limit b st.at e s.kinds st.spot ts r t c.in-Some.ensures.number in
+    let r = c.in-Ok.ensures.ok s.lossy s.limit ts (to_rest s.lossy s.limit s.start s.at s.text.now b s.kinds s.expected ts (g ∙ v.rest_is) h) in
+    let x = stood_number s.lossy s.limit b st.at e s.kinds st.expected ts r t c.in-Some.ensures.number in
     let l : c.range.result.now ≡ piece b st.at e = subst (λ b. c.range.result.now ≡ piece b st.at e) (sym g) c.range.ensures.value in
-    let y = subst (λ o. Stood s.lossy s.limit b e s.kinds done (ts ++ num_token o ∷ [])) (sym l) x in
+    let y = subst (λ o. ReaderAt s.lossy s.limit b e s.kinds done (ts ++ num_token o ∷ [])) (sym l) x in
     (num_token c.range.result.now, refl, from_rest s.lossy s.limit s.start e s.text.now b s.kinds done (ts ++ num_token c.range.result.now ∷ []) (g ∙ v.rest_is) y))
 
 pub returns-clause-tight : goal.returns-clause-tight
 returns-clause-tight c =
-    let s = c.self.inside in let g = c.as_bytes-bytes.ensures.value in let st = c.in-Ok.stand in let b = c.as_bytes-bytes.result.now in
+    let s = c.self.inside in let g = c.as_bytes-bytes.ensures.value in let st = c.in-Ok.part_start in let b = c.as_bytes-bytes.result.now in
     let e = c.in-Some.digits.end in
     let l : c.range.result.now ≡ piece b st.at e = subst (λ b. c.range.result.now ≡ piece b st.at e) (sym g) c.range.ensures.value in
     rw (← c.self.view_is)
@@ -92,20 +92,20 @@ returns-clause-reads c = λ w.
 pub returns-then-not-takes_value-clause-none : goal.returns-then-not-takes_value-clause-none
 returns-then-not-takes_value-clause-none c = λ _. rw (← c.self.view_is) (λ h.
     let s = c.self.inside in let b = c.as_bytes-bytes.result.now in let e = c.as_bytes-bytes.ensures.value ∙ c.self.invariant.rest_is in
-    let o = c.in-Ok.ensures.only h.at h.spot (next_rest s.text.now b s.start s.at h.at s.kinds s.spot h.spot e h.next) in
+    let o = c.in-Ok.ensures.only h.at h.expected (next_rest s.text.now b s.start s.at h.at s.kinds s.expected h.expected e h.next) in
     both_ways _ c.if-not-takes_value.true (c.takes_value.ensures.1 (subst TakesValue (sym o.1) h.takes)))
 
 pub returns-in-None-clause-none : goal.returns-in-None-clause-none
 returns-in-None-clause-none c = λ _. rw (← c.self.view_is) (λ h.
     let s = c.self.inside in let b = c.as_bytes-bytes.result.now in let e = c.as_bytes-bytes.ensures.value ∙ c.self.invariant.rest_is in
-    let o = c.in-Ok.ensures.only h.at h.spot (next_rest s.text.now b s.start s.at h.at s.kinds s.spot h.spot e h.next) in
-    c.in-None.ensures.none refl h.to (moved b _ c.in-Ok.stand.at h.at h.to e o.0 h.integer))
+    let o = c.in-Ok.ensures.only h.at h.expected (next_rest s.text.now b s.start s.at h.at s.kinds s.expected h.expected e h.next) in
+    c.in-None.ensures.none refl h.to (moved b _ c.in-Ok.part_start.at h.at h.to e o.0 h.integer))
 
 pub returns-then-digits-most-clause-none : goal.returns-then-digits-most-clause-none
 returns-then-digits-most-clause-none c = λ _. rw (← c.self.view_is) (λ h.
     let s = c.self.inside in let b = c.as_bytes-bytes.result.now in let e = c.as_bytes-bytes.ensures.value ∙ c.self.invariant.rest_is in
-    let o = c.in-Ok.ensures.only h.at h.spot (next_rest s.text.now b s.start s.at h.at s.kinds s.spot h.spot e h.next) in
-    let at = c.in-Ok.stand.at in let d = c.in-Some.digits in let i = c.in-Some.ensures in
+    let o = c.in-Ok.ensures.only h.at h.expected (next_rest s.text.now b s.start s.at h.at s.kinds s.expected h.expected e h.next) in
+    let at = c.in-Ok.part_start.at in let d = c.in-Some.digits in let i = c.in-Some.ensures in
     let n : IsShortInteger b at d.end = record { number = i.number; digits = i.digits; few = i.some.1 } in
     let v = one_value b at d.end h.to d.value n (moved b _ at h.at h.to e o.0 h.integer) i.value in
     let l = moved_value b _ at h.at h.to c.args.most e o.0 h.value in
@@ -115,15 +115,15 @@ returns-then-digits-most-clause-none c = λ _. rw (← c.self.view_is) (λ h.
 pub returns-clause-some : goal.returns-clause-some
 returns-clause-some c =
     let s = c.self.inside in let b = c.as_bytes-bytes.result.now in let e = c.as_bytes-bytes.ensures.value ∙ c.self.invariant.rest_is in
-    let st = c.in-Ok.stand in let d = c.in-Some.digits in let i = c.in-Some.ensures in
-    let t : TakesValue st.spot = c.takes_value.ensures.0 (search rules) in
+    let st = c.in-Ok.part_start in let d = c.in-Some.digits in let i = c.in-Some.ensures in
+    let t : TakesValue st.expected = c.takes_value.ensures.0 (search rules) in
     let n : IsShortInteger b st.at d.end = record { number = i.number; digits = i.digits; few = i.some.1 } in
     let l : d.value ≤ c.args.most = search rules in
     rw (← c.self.view_is)
     (record {
       at = st.at;
-      spot = st.spot;
-      next = rest_next s.text.now b s.start s.at st.at s.kinds s.spot st.spot e (c.in-Ok.ensures.next (takes_not_done t));
+      expected = st.expected;
+      next = rest_next s.text.now b s.start s.at st.at s.kinds s.expected st.expected e (c.in-Ok.ensures.next (takes_not_done t));
       takes = t;
       to = d.end;
       integer = moved _ b st.at st.at d.end (sym e) refl n;
@@ -133,4 +133,4 @@ returns-clause-some c =
 pub returns-in-Err-clause-none : goal.returns-in-Err-clause-none
 returns-in-Err-clause-none c = λ _. rw (← c.self.view_is) (λ h.
     let s = c.self.inside in let e = c.as_bytes-bytes.ensures.value ∙ c.self.invariant.rest_is in
-    c.in-Err.ensures.only h.at h.spot (next_rest s.text.now c.as_bytes-bytes.result.now s.start s.at h.at s.kinds s.spot h.spot e h.next))
+    c.in-Err.ensures.only h.at h.expected (next_rest s.text.now c.as_bytes-bytes.result.now s.start s.at h.at s.kinds s.expected h.expected e h.next))

@@ -1,6 +1,6 @@
 use Rattle.std.proofs.Common.{◌≡◌, ◌∙◌, ◌≤◌, [], ◌∷◌, ◌++◌, Option, None, IfSome, refl, sym, ap, subst, arith, rules}
 use Rattle.std.proofs.lemmas.Bool.{both_ways}
-use Rattle.json_grammar.specs.declared.Spot.TheVariants.{Colon as spot_behind}
+use Rattle.json_grammar.specs.declared.ExpectedPart.TheVariants.{Colon as spot_behind}
 use Rattle.json_grammar.specs.Given.{piece}
 use Rattle.json_grammar.specs.Grammar.{chars}
 use Rattle.json_grammar.specs.Needs.{IsGap}
@@ -12,8 +12,8 @@ use Rattle.json_text.specs.declared.event.Event.TheVariants as event
 use Rattle.json_text.specs.Faults.{IsInValue}
 use Rattle.json_text.specs.Parsing.{ParserState}
 use Rattle.json_scan.specs.Runs.{ByteAt}
-use Rattle.json_text.specs.Standing.{Stood}
-use Rattle.json_text.proofs.Behind.{event_reads}
+use Rattle.json_text.specs.Readers.{ReaderAt}
+use Rattle.json_text.proofs.ValueEnds.{event_reads}
 use Rattle.json_text.proofs.Going.{to_rest, from_rest, within_text, takes_token}
 use Rattle.json_text.proofs.Tokens.{stood_key, tight_quoted}
 use Rattle.json_text.proofs.NextParts.{next_rest, rest_next}
@@ -22,16 +22,16 @@ use Rattle.json_text.proofs.parser.Parser.next_key.Goals as goal
 use Rattle.json_text.proofs.parser.Parser.next_key.Goals.{then-not-takes_key-via-then-not-takes_key, then-not-takes_key-via-else-not-takes_key+then-not-byte_is}
 
 pub string_at-requires : goal.string_at-requires
-string_at-requires c = subst (λ b. ByteAt b c.in-Ok.stand.at 34) c.as_bytes-bytes.ensures.value (c.byte_is.ensures.0 (search rules))
+string_at-requires c = subst (λ b. ByteAt b c.in-Ok.part_start.at 34) c.as_bytes-bytes.ensures.value (c.byte_is.ensures.0 (search rules))
 
 pub invariant_of-self : goal.invariant_of-self
 invariant_of-self c =
-    let s = c.self.inside in let v = c.self.invariant in let i = v.given in let g = c.as_bytes-bytes.ensures.value in let st = c.in-Ok.stand in let b = s.rest.now in
+    let s = c.self.inside in let v = c.self.invariant in let i = v.given in let g = c.as_bytes-bytes.ensures.value in let st = c.in-Ok.part_start in let b = s.rest.now in
     let e = c.in-Ok-string_at.quote.end in
     let q = c.in-Ok-string_at.ensures.ok in
-    let r = c.in-Ok.ensures.ok s.lossy s.limit i.0 (to_rest s.lossy s.limit s.start s.at s.text.now c.as_bytes-bytes.result.now s.kinds s.spot i.0 (g ∙ v.rest_is) i.1) in
-    let t : TakesKey st.spot = c.takes_key.ensures.0 (search rules) in
-    let x = stood_key s.lossy s.limit b c.in-Ok-string_at.quote.span.raw.now st.at e s.kinds st.spot i.0 (subst (λ b. Stood s.lossy s.limit b st.at s.kinds st.spot i.0) g r) t q in
+    let r = c.in-Ok.ensures.ok s.lossy s.limit i.0 (to_rest s.lossy s.limit s.start s.at s.text.now c.as_bytes-bytes.result.now s.kinds s.expected i.0 (g ∙ v.rest_is) i.1) in
+    let t : TakesKey st.expected = c.takes_key.ensures.0 (search rules) in
+    let x = stood_key s.lossy s.limit b c.in-Ok-string_at.quote.span.raw.now st.at e s.kinds st.expected i.0 (subst (λ b. ReaderAt s.lossy s.limit b st.at s.kinds st.expected i.0) g r) t q in
     let o = v.order in
     let w = v.within in
     let none : s.failure ≡ None = ap (λ (p : ParserState). p.failure) c.self.view_is ∙ c.requires.fresh in
@@ -47,14 +47,14 @@ invariant_of-self c =
 
 pub returns-clause-ok : goal.returns-clause-ok
 returns-clause-ok c =
-    let s = c.self.inside in let v = c.self.invariant in let g = c.as_bytes-bytes.ensures.value in let st = c.in-Ok.stand in let b = s.rest.now in
+    let s = c.self.inside in let v = c.self.invariant in let g = c.as_bytes-bytes.ensures.value in let st = c.in-Ok.part_start in let b = s.rest.now in
     let e = c.in-Ok-string_at.quote.end in
     let q = c.in-Ok-string_at.ensures.ok in
-    let t : TakesKey st.spot = c.takes_key.ensures.0 (search rules) in
+    let t : TakesKey st.expected = c.takes_key.ensures.0 (search rules) in
     rw (← c.self.view_is)
     (λ ts h.
-    let r = c.in-Ok.ensures.ok s.lossy s.limit ts (to_rest s.lossy s.limit s.start s.at s.text.now c.as_bytes-bytes.result.now s.kinds s.spot ts (g ∙ v.rest_is) h) in
-    let x = stood_key s.lossy s.limit b c.in-Ok-string_at.quote.span.raw.now st.at e s.kinds st.spot ts (subst (λ b. Stood s.lossy s.limit b st.at s.kinds st.spot ts) g r) t q in (
+    let r = c.in-Ok.ensures.ok s.lossy s.limit ts (to_rest s.lossy s.limit s.start s.at s.text.now c.as_bytes-bytes.result.now s.kinds s.expected ts (g ∙ v.rest_is) h) in
+    let x = stood_key s.lossy s.limit b c.in-Ok-string_at.quote.span.raw.now st.at e s.kinds st.expected ts (subst (λ b. ReaderAt s.lossy s.limit b st.at s.kinds st.expected ts) g r) t q in (
       key_token q.text,
       (q.text, subst (λ y. chars y q.text c.in-Ok-string_at.quote.span.raw.now) (sym c.in-Ok-string_at.ensures.mode) q.spells, refl),
       from_rest s.lossy s.limit s.start e s.text.now b s.kinds spot_behind (ts ++ key_token q.text ∷ []) v.rest_is x,
@@ -62,7 +62,7 @@ returns-clause-ok c =
 
 pub returns-clause-tight : goal.returns-clause-tight
 returns-clause-tight c =
-    let s = c.self.inside in let g = c.as_bytes-bytes.ensures.value in let st = c.in-Ok.stand in let b = s.rest.now in
+    let s = c.self.inside in let g = c.as_bytes-bytes.ensures.value in let st = c.in-Ok.part_start in let b = s.rest.now in
     let e = c.in-Ok-string_at.quote.end in
     let p = c.in-Ok-string_at.quote.span in
     rw (← c.self.view_is)
@@ -77,21 +77,21 @@ returns-clause-reads c = λ w.
 
 pub returns-in-Err-string_at-clause-none : goal.returns-in-Err-string_at-clause-none
 returns-in-Err-string_at-clause-none c = λ _. rw (← c.self.view_is) (λ h.
-    let s = c.self.inside in let e = c.self.invariant.rest_is in let g = c.as_bytes-bytes.ensures.value in let at = c.in-Ok.stand.at in
-    let o = c.in-Ok.ensures.only h.at h.spot (next_rest s.text.now c.as_bytes-bytes.result.now s.start s.at h.at s.kinds s.spot h.spot (g ∙ e) h.next) in
+    let s = c.self.inside in let e = c.self.invariant.rest_is in let g = c.as_bytes-bytes.ensures.value in let at = c.in-Ok.part_start.at in
+    let o = c.in-Ok.ensures.only h.at h.expected (next_rest s.text.now c.as_bytes-bytes.result.now s.start s.at h.at s.kinds s.expected h.expected (g ∙ e) h.next) in
     let f = c.in-Err-string_at.field-0 in
     let q = subst (λ b. ByteAt b at 34) g (c.byte_is.ensures.0 (search rules)) in
     stops_no_string s.lossy s.rest.now h.raw at f.offset h.to f.code q c.in-Err-string_at.ensures.err (moved_string s.lossy s.rest.now _ h.raw at h.at h.to e o.0 h.string))
 
 pub returns-clause-some : goal.returns-clause-some
 returns-clause-some c =
-    let s = c.self.inside in let b = s.rest.now in let e = c.self.invariant.rest_is in let g = c.as_bytes-bytes.ensures.value in let st = c.in-Ok.stand in let q = c.in-Ok-string_at.quote in
-    let t : TakesKey st.spot = c.takes_key.ensures.0 (search rules) in
+    let s = c.self.inside in let b = s.rest.now in let e = c.self.invariant.rest_is in let g = c.as_bytes-bytes.ensures.value in let st = c.in-Ok.part_start in let q = c.in-Ok-string_at.quote in
+    let t : TakesKey st.expected = c.takes_key.ensures.0 (search rules) in
     rw (← c.self.view_is)
     (record {
       at = st.at;
-      spot = st.spot;
-      next = rest_next s.text.now c.as_bytes-bytes.result.now s.start s.at st.at s.kinds s.spot st.spot (g ∙ e) (c.in-Ok.ensures.next (takes_key_not_done t));
+      expected = st.expected;
+      next = rest_next s.text.now c.as_bytes-bytes.result.now s.start s.at st.at s.kinds s.expected st.expected (g ∙ e) (c.in-Ok.ensures.next (takes_key_not_done t));
       takes = t;
       raw = q.span.raw.now;
       to = q.end;
@@ -101,12 +101,12 @@ returns-clause-some c =
 pub returns-in-Err-clause-none : goal.returns-in-Err-clause-none
 returns-in-Err-clause-none c = λ _. rw (← c.self.view_is) (λ h.
     let s = c.self.inside in let e = c.as_bytes-bytes.ensures.value ∙ c.self.invariant.rest_is in
-    c.in-Err.ensures.only h.at h.spot (next_rest s.text.now c.as_bytes-bytes.result.now s.start s.at h.at s.kinds s.spot h.spot e h.next))
+    c.in-Err.ensures.only h.at h.expected (next_rest s.text.now c.as_bytes-bytes.result.now s.start s.at h.at s.kinds s.expected h.expected e h.next))
 
 pub returns-then-not-takes_key-clause-none : goal.returns-then-not-takes_key-clause-none
 returns-then-not-takes_key-clause-none c = λ _. rw (← c.self.view_is) (λ h.
     let s = c.self.inside in let b = c.as_bytes-bytes.result.now in let e = c.as_bytes-bytes.ensures.value ∙ c.self.invariant.rest_is in
-    let o = c.in-Ok.ensures.only h.at h.spot (next_rest s.text.now b s.start s.at h.at s.kinds s.spot h.spot e h.next) in
+    let o = c.in-Ok.ensures.only h.at h.expected (next_rest s.text.now b s.start s.at h.at s.kinds s.expected h.expected e h.next) in
     let q = subst (λ y. ByteAt y h.at 34) (sym e) h.string.opens in
     elim c.then-not-takes_key.branch [
       | then-not-takes_key-via-then-not-takes_key w ↦ both_ways _ w.if-not-takes_key.true (c.takes_key.ensures.1 (subst TakesKey (sym o.1) h.takes))

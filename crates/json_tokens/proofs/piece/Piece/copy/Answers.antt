@@ -17,7 +17,7 @@ says_chars {s = s} {b = b} e h = subst (λ (o : Option Bool). Says s o b) e h
 pub invariant_of-span : goal.invariant_of-span
 invariant_of-span g c = record {
   spells = ∥∥₁_map c.args.self.spells (λ s. (s.0, subst (chars c.in-Some.lossy s.0) (sym c.as_text-2.ensures) (says_chars c.in-Some.is s.1)));
-  told = (λ _ n. c.args.self.told (some_is c.in-Some.is) (subst NoEscape c.as_text-2.ensures n), λ e. absurd (cc));
+  marked = (λ _ n. c.args.self.marked (some_is c.in-Some.is) (subst NoEscape c.as_text-2.ensures n), λ e. absurd (cc));
 }
 
 pub from_utf8_unchecked-text-requires : goal.from_utf8_unchecked-text-requires

@@ -10,4 +10,4 @@ returns-clause-read c =
     let s = c.self.inside in
     let v = sym c.self.view_is in
     subst HasReadValue c.self.view_is
-    (has_read_value s.parser (option_map (λ (h : Ahead). h.event) s.ahead) s.failed (subst (λ (n : TextTokensState). (text_tokens_state n).spot ≡ state_in []) v c.requires.over) (subst (λ (n : TextTokensState). (text_tokens_state n).told ≡ None) v c.requires.told) c.self.invariant.read)
+    (has_read_value s.parser (option_map (λ (h : Ahead). h.event) s.ahead) s.failed (subst (λ (n : TextTokensState). (text_tokens_state n).expected ≡ state_in []) v c.requires.over) (subst (λ (n : TextTokensState). (text_tokens_state n).peeked ≡ None) v c.requires.peeked) c.self.invariant.read)

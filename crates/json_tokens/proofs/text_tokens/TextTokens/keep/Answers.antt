@@ -3,7 +3,7 @@ use Rattle.json_grammar.specs.Tree.{Token as Tok}
 use Rattle.json_io.specs.declared.error.Error.{Error}
 use Rattle.json_value.specs.Denotes.{tree_of}
 use Rattle.json_tokens.specs.declared.ahead.Ahead.{Ahead}
-use Rattle.json_tokens.specs.Stand.{Peeks, TakesTokens}
+use Rattle.json_tokens.specs.TokensStates.{Peeks, TakesTokens}
 use Rattle.json_tokens.specs.Text.{TextTokensState, TakenBefore, text_taken, text_tokens_state, TextFails}
 use Rattle.json_tokens.proofs.TextValues.{handed_out, takes_value}
 use Rattle.json_tokens.proofs.text_tokens.TextTokens.keep.Goals as goal

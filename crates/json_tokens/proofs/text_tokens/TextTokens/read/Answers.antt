@@ -3,7 +3,7 @@ use Rattle.json_io.specs.declared.error.Error.{Error}
 use Rattle.json_text.specs.declared.event.Event.{Event}
 use Rattle.json_text.specs.Parsing.{ParserState, HasGiven, IsWhole, HasRead}
 use Rattle.json_tokens.specs.declared.ahead.Ahead.{Ahead}
-use Rattle.json_tokens.specs.Stand.{TakesTokens}
+use Rattle.json_tokens.specs.TokensStates.{TakesTokens}
 use Rattle.json_tokens.specs.Text.{TextTokensState, TakenBefore, text_taken, TextFails, ReadsAhead}
 use Rattle.json_tokens.proofs.Events.{event_number}
 use Rattle.json_tokens.proofs.TextSteps.{takes_none, fault_kept}

@@ -1,7 +1,7 @@
 use Rattle.std.proofs.Common.{◌≡◌, ◌∙◌, List, [], Option, Some, sym, ap, subst, option_map}
 use Rattle.json_grammar.specs.Tree.{Token as Tok}
 use Rattle.json_tokens.specs.declared.ahead.Ahead.{Ahead}
-use Rattle.json_tokens.specs.Stand.{Peeks, TakesTokens}
+use Rattle.json_tokens.specs.TokensStates.{Peeks, TakesTokens}
 use Rattle.json_tokens.specs.Text.{TextTokensState, TakenBefore, text_taken, text_tokens_state}
 use Rattle.json_tokens.proofs.Events.{event_number}
 use Rattle.json_tokens.proofs.TextSteps.{takes_next}

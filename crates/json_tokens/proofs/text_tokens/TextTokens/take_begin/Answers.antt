@@ -1,9 +1,9 @@
 use Rattle.std.proofs.Common.{◌∙◌, ap, rules}
 use Rattle.json_grammar.specs.Tree.{begin as begin_token}
 use Rattle.json_text.specs.Tokens.{begin_event}
-use Rattle.json_tokens.specs.Stand.{TakesOne}
+use Rattle.json_tokens.specs.TokensStates.{TakesOne}
 use Rattle.json_tokens.specs.Text.{TextTokensState, text_taken, text_tokens_state}
-use Rattle.json_tokens.proofs.Told.{not_some}
+use Rattle.json_tokens.proofs.KindTests.{not_some}
 use Rattle.json_tokens.proofs.AtOnce.{clear_reading, clear_taken, begin_read, begin_taken}
 use Rattle.json_tokens.proofs.text_tokens.TextTokens.take_begin.Goals as goal
 

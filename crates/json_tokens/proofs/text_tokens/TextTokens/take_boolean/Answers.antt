@@ -1,9 +1,9 @@
 use Rattle.std.proofs.Common.{◌∙◌, ap, rules}
 use Rattle.json_grammar.specs.Tree.{boolean}
 use Rattle.json_text.specs.declared.event.Event.TheVariants as Event
-use Rattle.json_tokens.specs.Stand.{TakesTree}
+use Rattle.json_tokens.specs.TokensStates.{TakesTree}
 use Rattle.json_tokens.specs.Text.{TextTokensState, text_taken, text_tokens_state}
-use Rattle.json_tokens.proofs.Told.{not_some}
+use Rattle.json_tokens.proofs.KindTests.{not_some}
 use Rattle.json_tokens.proofs.AtOnce.{clear_inside, clear_reading, clear_taken, bool_read, boolean_taken}
 use Rattle.json_tokens.proofs.text_tokens.TextTokens.take_boolean.Goals as goal
 

@@ -1,8 +1,8 @@
 use Rattle.std.proofs.Common.{arith, rules, ◌∙◌, ap}
 use Rattle.json_text.specs.declared.event.Event.TheVariants as Event
-use Rattle.json_tokens.specs.Stand.{TakesNegative}
+use Rattle.json_tokens.specs.TokensStates.{TakesNegative}
 use Rattle.json_tokens.specs.Text.{TextTokensState, text_taken, text_tokens_state}
-use Rattle.json_tokens.proofs.Told.{not_some}
+use Rattle.json_tokens.proofs.KindTests.{not_some}
 use Rattle.json_tokens.proofs.AtOnce.{clear_inside, clear_reading, clear_taken, number_read, negative_taken}
 use Rattle.json_tokens.proofs.text_tokens.TextTokens.take_negative.Goals as goal
 

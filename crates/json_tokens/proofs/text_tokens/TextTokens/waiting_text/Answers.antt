@@ -2,7 +2,7 @@ use Rattle.std.proofs.Common.{◌≡◌, ◌∙◌, Option, Some, None, sym, ap,
 use Rattle.json_text.specs.declared.event.Event.{Event}
 use Rattle.json_text.specs.declared.event.Event.TheVariants as event
 use Rattle.json_tokens.specs.declared.ahead.Ahead.{Ahead}
-use Rattle.json_tokens.specs.Stand.{TakesText}
+use Rattle.json_tokens.specs.TokensStates.{TakesText}
 use Rattle.json_tokens.specs.Text.{TextTokensState, TakenBefore, text_taken, text_tokens_state}
 use Rattle.json_tokens.specs.Pieces.{Says}
 use Rattle.json_tokens.proofs.Waiting.{waits, text_waiting}
@@ -16,5 +16,5 @@ returns-in-Str-clause-takes c =
     let h : option_map (λ (h : Ahead). h.event) s.ahead ≡ Some e = ap (option_map (λ (h : Ahead). h.event)) c.in-Some.is ∙ ap (λ (v : Event). Some v) c.in-Str.is in
     let w : waits s.parser s.failed e ≡ c.args.self.now = ap (λ (o : Option Event). record { parser = s.parser; ahead = o; failed = s.failed }) (sym h) ∙ c.self.view_is in
     let g : TakenBefore (Some e) s.parser i.0 = subst (λ (o : Option Event). TakenBefore o s.parser i.0) h i.1 in
-    let says : _ = λ s. Says s c.piece.result.escaped c.piece.result.text.now in
-    subst (λ (a : TextTokensState). TakesText text_taken text_tokens_state says a (record { parser = s.parser; ahead = None; failed = s.failed })) w (text_waiting s.parser s.failed c.in-Str.span says (i.0, g) c.piece.ensures)
+    let says : _ = λ s. Says s c.plain_piece.result.escaped c.plain_piece.result.text.now in
+    subst (λ (a : TextTokensState). TakesText text_taken text_tokens_state says a (record { parser = s.parser; ahead = None; failed = s.failed })) w (text_waiting s.parser s.failed c.in-Str.span says (i.0, g) c.plain_piece.ensures)

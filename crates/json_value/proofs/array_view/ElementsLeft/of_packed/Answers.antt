@@ -4,7 +4,7 @@ use Rattle.json_doc.specs.Docs.{doc_tree}
 use Rattle.json_doc.specs.Left.{children_doc, children_places}
 use Rattle.json_doc.specs.Readings.{elements}
 use Rattle.json_doc.specs.Seen.{view_doc, view_place, view_tree}
-use Rattle.json_value.specs.Sights.{doc_held}
+use Rattle.json_value.specs.ViewTargets.{doc_held}
 use Rattle.json_value.proofs.Iterations.{elements_by_place}
 use Rattle.json_value.proofs.array_view.ElementsLeft.of_packed.Goals as goal
 

@@ -36,4 +36,4 @@ returns-in-None c =
     let old = tree_of c.args.self.now in
     let is = c.in_ok-open_with.ensures.ok in
     let no = unopened c.args.key.now old (λ f. ap (on_pairs f) (sym is) ∙ c.in-None.ensures.none f) in
-    ((refl, (λ w never. search), unopened_same c.args.self.now c.open_with.new.self c.in_ok-open_with.ensures.made c.in-None.ensures.none), (tt, λ f. refused_as (on_pairs f (null_as_object old)) c.type_unmatched.result type_unmatched c.type_unmatched.ensures (no.1 f)))
+    ((refl, (λ w never. search), unopened_same c.args.self.now c.open_with.new.self c.in_ok-open_with.ensures.made c.in-None.ensures.none), (tt, λ f. refused_as (on_pairs f (null_as_object old)) c.type_unmatched_error.result type_unmatched c.type_unmatched_error.ensures (no.1 f)))

@@ -5,7 +5,7 @@ use Rattle.json_grammar.specs.Tree.{Tree}
 use Rattle.json_doc.specs.Left.{pairs_doc, places_of_pairs, pairs_left, doc_pair}
 use Rattle.json_doc.specs.Seen.{view_doc, view_place, view_tree}
 use Rattle.json_doc_print.specs.Readings.{members}
-use Rattle.json_value.specs.Sights.{place_of, doc_held}
+use Rattle.json_value.specs.ViewTargets.{place_of, doc_held}
 use Rattle.json_value.proofs.Iterations.{members_by_place}
 use Rattle.json_value.proofs.object_view.MembersLeft.of_packed.Goals as goal
 

@@ -17,4 +17,4 @@ returns-in_ok-make_owned-in-Some c = (
 )
 
 pub returns-in-None : goal.returns-in-None
-returns-in-None c = ((refl, (λ w never. search), refl), record { writes_back = tt; opens = inr (c.type_unmatched.ensures, list_none (tree_of c.args.self.now) c.in-None.ensures.none) })
+returns-in-None c = ((refl, (λ w never. search), refl), record { writes_back = tt; opens = inr (c.type_unmatched_error.ensures, list_none (tree_of c.args.self.now) c.in-None.ensures.none) })

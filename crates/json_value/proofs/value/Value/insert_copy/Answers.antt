@@ -6,7 +6,7 @@ use Rattle.json_value.specs.Denotes.{tree_of, text_bytes, pair_of}
 use Rattle.json_value.proofs.AppliedTrees.{object_changed, object_kept}
 use Rattle.json_value.specs.Places.{value_origin}
 use Rattle.json_value.specs.Touched.{Inserts, Same}
-use Rattle.json_value.proofs.PlacesKept.{stands_as}
+use Rattle.json_value.proofs.PlacesKept.{leads_as}
 use Rattle.json_value.proofs.EditedValues.{object_touched}
 use Rattle.json_value.proofs.value.Value.insert_copy.Goals as goal
 
@@ -33,7 +33,7 @@ returns-in_ok-pairs-in-Some-clause-children c =
     let now = c.insert_pair.new.pairs in
     on_ok_weaker c.insert_pair.result
     (λ h. object_touched (Inserts c.args.key.now (value_origin c.args.value.now)) c.args.self.now c.in-Some.object.now lent.pairs.now now c.in-Some.ensures.value lent.ensures.pairs lent.ensures.children
-    (subst (λ s. Inserts c.args.key.now s items now.items) (stands_as _ _ c.in_ok-value-in-Some.ensures.spot c.in_ok-value-in-Some.ensures.places) h))
+    (subst (λ s. Inserts c.args.key.now s items now.items) (leads_as _ _ c.in_ok-value-in-Some.ensures.position c.in_ok-value-in-Some.ensures.places) h))
     c.insert_pair.ensures.children
 
 pub returns-in_ok-pairs-in-Some-clause-kept_along : goal.returns-in_ok-pairs-in-Some-clause-kept_along

@@ -5,7 +5,7 @@ use Rattle.json_value.specs.Denotes.{tree_of}
 use Rattle.json_value.proofs.AppliedTrees.{array_changed, array_kept, element_pushed, anyway}
 use Rattle.json_value.specs.Places.{value_origin}
 use Rattle.json_value.specs.Touched.{Pushes, Same}
-use Rattle.json_value.proofs.PlacesKept.{stands_as}
+use Rattle.json_value.proofs.PlacesKept.{leads_as}
 use Rattle.json_value.proofs.EditedValues.{array_touched}
 use Rattle.json_value.proofs.value.Value.push.Goals as goal
 
@@ -25,7 +25,7 @@ pub returns-in_ok-push-in-Some-clause-children : goal.returns-in_ok-push-in-Some
 returns-in_ok-push-in-Some-clause-children c =
     let lent = c.in_ok-list-in-Some in
     array_touched (Pushes (value_origin c.args.value.now)) c.args.self.now c.in-Some.array.now lent.list.now c.push.new.self c.in-Some.ensures.value lent.ensures.list lent.ensures.children
-    (c.in_ok-value-in-Some.value, stands_as _ _ c.in_ok-value-in-Some.ensures.spot c.in_ok-value-in-Some.ensures.places, c.in_ok-push-in-Some.ensures.items)
+    (c.in_ok-value-in-Some.value, leads_as _ _ c.in_ok-value-in-Some.ensures.position c.in_ok-value-in-Some.ensures.places, c.in_ok-push-in-Some.ensures.items)
 
 pub returns-in_err-push-in-Some-clause-kept_along : goal.returns-in_err-push-in-Some-clause-kept_along
 returns-in_err-push-in-Some-clause-kept_along c =

@@ -20,7 +20,7 @@ use Rattle.json_value.specs.Steps.{tree_at}
 use Rattle.json_io.specs.Errors.{no_memory}
 use Rattle.json_value.specs.Lending.{LendsAlong, LendsNamed, PutsAtPath, PutsNothing, LeadsTo, missing_as_none, lent, lent_name, name_of_ok}
 use Rattle.json_value.proofs.LenderRelations.{so_weaken}
-use Rattle.json_value.proofs.MissingPlaces.{missing_name, missing_lent, missing_stands, missing_only}
+use Rattle.json_value.proofs.MissingPlaces.{missing_name, missing_lent, missing_leads, missing_only}
 use Rattle.json_value.specs.declared.value.Value.{Value}
 use Rattle.json_value.specs.contracts.value.Value.{the_row as value}
 use Rattle.json_io.specs.contracts.error.Error.{the_row as refusal}
@@ -78,4 +78,4 @@ reach_spec 𝓤 𝓛 𝓜 𝓡 wired =
     rewrite ! 0 (λ (m : maybe.Option GName). ‵ (LendsNamed v m Put (PutsNothing (steps_of path.now) v.now))) (sym (ap lent_name same ∙ missing_name r)) refl $
     suffices ! _ (ends_at 𝓛 f.ended stayed c z o s (tt, (tt, (tt, tt))) (tt, (tt, (tt, tt)))) $
     -- [what is lent; the result; the first token; the second token and nothing]
-    move ! (2 ∷ 3 ∷ []) $ join ! $ nothing ! $ nothing ! $ join ! $ nothing ! $ join ! $ nothing ! $ join ! $ move ! (1 ∷ 0 ∷ 3 ∷ 2 ∷ []) $ group ! 3 $ frame ! $ frame ! $ use0 𝓛 (raw (fact 𝓤 (IfErr s (λ e. e ≡ no_memory)))) (fact_i 𝓤 _ (emp 𝓤) (subst (λ (s : O.Denot). IfErr s (λ e. e ≡ no_memory)) (sym same) (missing_only (steps_of path.now) (tree_of v.now) r seen))) $ use0 𝓛 (raw (fact 𝓤 (IfOk s (λ o. option_map (λ x. tree_of x.now) o ≡ tree_at (steps_of path.now) (tree_of v.now))))) (fact_i 𝓤 _ (emp 𝓤) (subst (λ (s : O.Denot). IfOk s (λ o. option_map (λ x. tree_of x.now) o ≡ tree_at (steps_of path.now) (tree_of v.now))) (sym same) (missing_stands (steps_of path.now) (tree_of v.now) r seen))) $ done !))))))))))))
+    move ! (2 ∷ 3 ∷ []) $ join ! $ nothing ! $ nothing ! $ join ! $ nothing ! $ join ! $ nothing ! $ join ! $ move ! (1 ∷ 0 ∷ 3 ∷ 2 ∷ []) $ group ! 3 $ frame ! $ frame ! $ use0 𝓛 (raw (fact 𝓤 (IfErr s (λ e. e ≡ no_memory)))) (fact_i 𝓤 _ (emp 𝓤) (subst (λ (s : O.Denot). IfErr s (λ e. e ≡ no_memory)) (sym same) (missing_only (steps_of path.now) (tree_of v.now) r seen))) $ use0 𝓛 (raw (fact 𝓤 (IfOk s (λ o. option_map (λ x. tree_of x.now) o ≡ tree_at (steps_of path.now) (tree_of v.now))))) (fact_i 𝓤 _ (emp 𝓤) (subst (λ (s : O.Denot). IfOk s (λ o. option_map (λ x. tree_of x.now) o ≡ tree_at (steps_of path.now) (tree_of v.now))) (sym same) (missing_leads (steps_of path.now) (tree_of v.now) r seen))) $ done !))))))))))))

@@ -34,7 +34,7 @@ returns-else-remove_pairs-clause-refused c =
     let k = c.as_str.result.now in
     let before = list_pairs (map pair_of pairs.items) in
     let h = c.remove_pairs.ensures.kept c.if-remove_pairs.false in
-    refused_as (removed (step_of c.args.step.now) (tree_of self)) c.not_found.result not_found c.not_found.ensures
+    refused_as (removed (step_of c.args.step.now) (tree_of self)) c.not_found_error.result not_found c.not_found_error.ensures
     (remove_key c.args.step.now c.in-Key.key k (tree_of self) c.in-Key.is c.as_str.ensures
     ∙ object_missed self c.in-Some.object.now pairs c.in-Some.ensures.value c.in_ok-pairs-in-Some.ensures.pairs (removal k) missing (ap (λ b. cond b (Ok (without_key k before)) (Err missing)) h.0))
 
@@ -57,7 +57,7 @@ returns-else-i-len-clause-refused c =
     let self = c.args.self.now in
     let list = c.in_ok-list-in-Some-array_mut.list.now in
     let past : length list.items ≤ c.in-Index.i = omega (arith, c.if-i-len.false, c.len.ensures, list.ok.0) in
-    refused_as (removed (step_of c.args.step.now) (tree_of self)) c.not_found-else-i-len.result not_found c.not_found-else-i-len.ensures
+    refused_as (removed (step_of c.args.step.now) (tree_of self)) c.not_found_error-else-i-len.result not_found c.not_found_error-else-i-len.ensures
     (remove_index c.args.step.now c.in-Index.i (tree_of self) c.in-Index.is
     ∙ array_missed self c.in-Some-array_mut.array.now list c.in-Some-array_mut.ensures.value c.in_ok-list-in-Some-array_mut.ensures.list (without_index c.in-Index.i) missing (removal_missed list.items c.in-Index.i past))
 

@@ -22,7 +22,7 @@ use denote.Param.Laws.{of_field, row_shared}
 use denote.Param.Shared.{mut_ref_shared}
 use Rattle.json_value.specs.Lending.{LendsStep, LendsNamed, PutsAtPath, PutsNothing, LeadsTo, missing_as_none, lent, lent_name, name_of_ok}
 use Rattle.json_value.specs.Steps.{child}
-use Rattle.json_value.proofs.MissingPlaces.{missing_lent, one_step, missing_name, missing_stands, missing_only}
+use Rattle.json_value.proofs.MissingPlaces.{missing_lent, one_step, missing_name, missing_leads, missing_only}
 use Rattle.json_io.specs.Errors.{no_memory}
 use Rattle.json_value.specs.contracts.value.Value.{the_row as value}
 use Rattle.json_io.specs.contracts.error.Error.{the_row as refusal}
@@ -116,4 +116,4 @@ step_mut_spec {M} 𝓤 𝓛 𝓜 𝓡 wired I L x d dd met glue =
     rewrite ! 0 (λ (m : maybe.Option GName). ‵ (LendsNamed v m Put (PutsNothing (x.step i ∷ []) v.now))) (sym (ap lent_name same ∙ missing_name r)) refl $
     suffices ! _ (ends_at 𝓛 En stays c z o s (tt, (tt, (tt, tt))) (tt, (tt, (tt, tt)))) $
     -- [what is lent; the result; the first token; the second and nothing]
-    move ! (2 ∷ 3 ∷ []) $ join ! $ nothing ! $ nothing ! $ join ! $ nothing ! $ join ! $ nothing ! $ join ! $ move ! (1 ∷ 0 ∷ 3 ∷ 2 ∷ []) $ group ! 3 $ frame ! $ frame ! $ use0 𝓛 (raw (fact 𝓤 (IfErr s (λ e. e ≡ no_memory)))) (fact_i 𝓤 _ (emp 𝓤) (subst (λ (s : O.Denot). IfErr s (λ e. e ≡ no_memory)) (sym same) (missing_only (x.step i ∷ []) (tree_of v.now) r seen))) $ use0 𝓛 (raw (fact 𝓤 (IfOk s (λ o. option_map (λ (y : MutBor Value). tree_of y.now) o ≡ child (x.step i) (tree_of v.now))))) (fact_i 𝓤 _ (emp 𝓤) (subst (λ (s : O.Denot). IfOk s (λ o. option_map (λ (y : MutBor Value). tree_of y.now) o ≡ child (x.step i) (tree_of v.now))) (sym same) (subst (λ (o : Option Tree). IfOk (missing_as_none r) (λ p. option_map (λ (y : MutBor Value). tree_of y.now) p ≡ o)) (one_step (x.step i) (tree_of v.now)) (missing_stands (x.step i ∷ []) (tree_of v.now) r seen)))) $ done !)))))))))))))
+    move ! (2 ∷ 3 ∷ []) $ join ! $ nothing ! $ nothing ! $ join ! $ nothing ! $ join ! $ nothing ! $ join ! $ move ! (1 ∷ 0 ∷ 3 ∷ 2 ∷ []) $ group ! 3 $ frame ! $ frame ! $ use0 𝓛 (raw (fact 𝓤 (IfErr s (λ e. e ≡ no_memory)))) (fact_i 𝓤 _ (emp 𝓤) (subst (λ (s : O.Denot). IfErr s (λ e. e ≡ no_memory)) (sym same) (missing_only (x.step i ∷ []) (tree_of v.now) r seen))) $ use0 𝓛 (raw (fact 𝓤 (IfOk s (λ o. option_map (λ (y : MutBor Value). tree_of y.now) o ≡ child (x.step i) (tree_of v.now))))) (fact_i 𝓤 _ (emp 𝓤) (subst (λ (s : O.Denot). IfOk s (λ o. option_map (λ (y : MutBor Value). tree_of y.now) o ≡ child (x.step i) (tree_of v.now))) (sym same) (subst (λ (o : Option Tree). IfOk (missing_as_none r) (λ p. option_map (λ (y : MutBor Value). tree_of y.now) p ≡ o)) (one_step (x.step i) (tree_of v.now)) (missing_leads (x.step i ∷ []) (tree_of v.now) r seen)))) $ done !)))))))))))))

@@ -9,7 +9,7 @@ use Rattle.json_value.proofs.value.editing.apply_in.Goals as goal
 
 pub returns-clause-ok : goal.returns-clause-ok
 returns-clause-ok g c =
-    let here = c.in_ok-place.ensures.stands in
+    let here = c.in_ok-place.ensures.leads in
     on_ok_weaker c.change.result
     (edit_made c.args.edit.now (steps_of c.steps.result.now) (c.steps.ensures ∙ c.path.ensures.steps) c.in_ok-place.place.now c.change.new.self (g.V.Places.held c.args.target.now) _ here
     ((rw c.in_ok-place.was at (c.place_mut.follows.holds c.change.new.self)) refl))
@@ -18,7 +18,7 @@ returns-clause-ok g c =
 pub returns-clause-kept : goal.returns-clause-kept
 returns-clause-kept g c =
     on_err_weaker c.change.result
-    (edit_unmade c.args.edit.now (steps_of c.steps.result.now) (c.steps.ensures ∙ c.path.ensures.steps) c.in_ok-place.place.now c.change.new.self (g.V.Places.held c.args.target.now) _ c.in_ok-place.ensures.stands
+    (edit_unmade c.args.edit.now (steps_of c.steps.result.now) (c.steps.ensures ∙ c.path.ensures.steps) c.in_ok-place.place.now c.change.new.self (g.V.Places.held c.args.target.now) _ c.in_ok-place.ensures.leads
     ((rw c.in_ok-place.was at (c.place_mut.follows.holds c.change.new.self)) refl))
     c.change.ensures.kept
 
@@ -27,21 +27,21 @@ returns-clause-refused g c =
     let edit = c.args.edit.now in
     let t = tree_of (g.V.Places.held c.args.target.now) in
     IfErr-weaker c.change.result (λ e. RefusesChange (change_of edit (tree_of c.in_ok-place.place.now)) e.code e.place) (λ e. RefusesChange (edited_once (edit_of edit) t) e.code e.place)
-    (λ e. edit_refused edit (steps_of c.steps.result.now) (c.steps.ensures ∙ c.path.ensures.steps) c.in_ok-place.place.now c.change.new.self (g.V.Places.held c.args.target.now) _ c.in_ok-place.ensures.stands
+    (λ e. edit_refused edit (steps_of c.steps.result.now) (c.steps.ensures ∙ c.path.ensures.steps) c.in_ok-place.place.now c.change.new.self (g.V.Places.held c.args.target.now) _ c.in_ok-place.ensures.leads
     ((rw c.in_ok-place.was at (c.place_mut.follows.holds c.change.new.self)) refl) e.code e.place)
     c.change.ensures.refused
 
 pub returns-clause-children : goal.returns-clause-children
 returns-clause-children g c =
     on_ok_weaker c.change.result
-    (edit_touches c.args.edit.now (steps_of c.steps.result.now) (c.steps.ensures ∙ c.path.ensures.steps) c.in_ok-place.place.now c.change.new.self (g.V.Places.held c.args.target.now) _ c.in_ok-place.ensures.stands
+    (edit_touches c.args.edit.now (steps_of c.steps.result.now) (c.steps.ensures ∙ c.path.ensures.steps) c.in_ok-place.place.now c.change.new.self (g.V.Places.held c.args.target.now) _ c.in_ok-place.ensures.leads
     ((rw c.in_ok-place.was at (c.place_mut.follows.holds c.change.new.self)) refl))
     c.change.ensures.children
 
 pub returns-clause-kept_along : goal.returns-clause-kept_along
 returns-clause-kept_along g c =
     on_err_weaker c.change.result
-    (edit_keeps c.args.edit.now (steps_of c.steps.result.now) (c.steps.ensures ∙ c.path.ensures.steps) c.in_ok-place.place.now c.change.new.self (g.V.Places.held c.args.target.now) _ c.in_ok-place.ensures.stands
+    (edit_keeps c.args.edit.now (steps_of c.steps.result.now) (c.steps.ensures ∙ c.path.ensures.steps) c.in_ok-place.place.now c.change.new.self (g.V.Places.held c.args.target.now) _ c.in_ok-place.ensures.leads
     ((rw c.in_ok-place.was at (c.place_mut.follows.holds c.change.new.self)) refl))
     c.change.ensures.kept_along
 

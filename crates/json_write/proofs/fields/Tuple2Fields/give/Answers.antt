@@ -12,7 +12,7 @@ returns-in_err-give g c =
 
 pub give-requires-2 : goal.give-requires-2
 give-requires-2 g c =
-    let w = wrote c.in_ok-give.ensures in λ f. fields_more g.E.Events.stand (g.A.Fields.rows c.args.self.now.0) g.met.E.Events.moves (c.requires w.begun) w
+    let w = wrote c.in_ok-give.ensures in λ f. fields_more g.E.Events.token_state (g.A.Fields.rows c.args.self.now.0) g.met.E.Events.moves (c.requires w.begun) w
 
 pub returns : goal.returns
 returns g c =

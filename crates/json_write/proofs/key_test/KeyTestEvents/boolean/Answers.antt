@@ -3,4 +3,4 @@ use Rattle.json_write.proofs.Testing.{as_value}
 use Rattle.json_write.proofs.key_test.KeyTestEvents.boolean.Goals as goal
 
 pub returns : goal.returns
-returns c = as_value _ refl c.pass.ensures
+returns c = as_value _ refl c.finish_value.ensures

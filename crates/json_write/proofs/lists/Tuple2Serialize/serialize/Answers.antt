@@ -18,7 +18,7 @@ returns-in_err-serialize g c =
     (err_from_is_err_and c.from_residual-in_err-serialize.result c.from_residual-in_err-serialize.ensures.1)
 
 pub serialize-requires-2 : goal.serialize-requires-2
-serialize-requires-2 g c = λ f. list_takes (list_more g.E.Events.stand _ g.met.E.Events.moves (list_begun g.E.Events.stand g.met.E.Events.moves (wrote c.in_ok-begin_list.ensures)) (wrote c.in_ok-serialize.ensures))
+serialize-requires-2 g c = λ f. list_takes (list_more g.E.Events.token_state _ g.met.E.Events.moves (list_begun g.E.Events.token_state g.met.E.Events.moves (wrote c.in_ok-begin_list.ensures)) (wrote c.in_ok-serialize.ensures))
 
 pub returns-in_err-serialize-2 : goal.returns-in_err-serialize-2
 returns-in_err-serialize-2 g c =
@@ -29,7 +29,7 @@ returns-in_err-serialize-2 g c =
 
 pub end_list-requires : goal.end_list-requires
 end_list-requires g c =
-    let m = g.met.E.Events.moves in let s = g.E.Events.stand in
+    let m = g.met.E.Events.moves in let s = g.E.Events.token_state in
     λ f. list_ends (list_more s _ m (list_more s _ m (list_begun s m (wrote c.in_ok-begin_list.ensures)) (wrote c.in_ok-serialize.ensures)) (wrote c.in_ok-serialize-2.ensures))
 
 pub returns : goal.returns

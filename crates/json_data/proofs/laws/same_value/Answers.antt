@@ -1,5 +1,0 @@
-use Rattle.json_data.proofs.ValueData as proof
-use Rattle.json_data.proofs.laws.same_value.Goals as goal
-
-pub returns : goal.returns
-returns c = proof.same_value

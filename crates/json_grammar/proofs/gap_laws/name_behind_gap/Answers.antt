@@ -1,5 +1,0 @@
-use Rattle.json_grammar.proofs.NeedsNames as proof
-use Rattle.json_grammar.proofs.gap_laws.name_behind_gap.Goals as goal
-
-pub returns : goal.returns
-returns c = proof.name_behind_gap

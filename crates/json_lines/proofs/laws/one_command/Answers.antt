@@ -1,5 +1,0 @@
-use Rattle.json_lines.proofs.WordsSpelled.{one_command}
-use Rattle.json_lines.proofs.laws.one_command.Goals as goal
-
-pub returns : goal.returns
-returns c = one_command

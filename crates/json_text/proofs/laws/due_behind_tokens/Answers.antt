@@ -1,5 +1,0 @@
-use Rattle.json_text.proofs.DueTokens as proof
-use Rattle.json_text.proofs.laws.due_behind_tokens.Goals as goal
-
-pub returns : goal.returns
-returns c = proof.due_behind_tokens

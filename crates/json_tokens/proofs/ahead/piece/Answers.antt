@@ -1,4 +1,0 @@
-use Rattle.json_tokens.proofs.ahead.piece.Goals as goal
-
-pub invariant_of-result : goal.invariant_of-result
-invariant_of-result c = record { spells = c.args.span.spells; told = λ _. c.in_default.ensures.none }

@@ -1,0 +1,5 @@
+use Rattle.json_write.proofs.Parts.{writes_token}
+use Rattle.json_write.proofs.event_calls.give_text.Goals as goal
+
+pub returns : goal.returns
+returns g c = writes_token c.utf8.s c.text.ensures

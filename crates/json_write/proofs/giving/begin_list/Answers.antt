@@ -1,5 +1,0 @@
-use Rattle.json_write.proofs.Parts.{writes_token}
-use Rattle.json_write.proofs.giving.begin_list.Goals as goal
-
-pub returns : goal.returns
-returns g c = writes_token tt c.begin_array.ensures

@@ -1,5 +1,0 @@
-use Rattle.json_write.proofs.Parts.{writes_token}
-use Rattle.json_write.proofs.giving.end_rows.Goals as goal
-
-pub returns : goal.returns
-returns g c = writes_token tt c.end_object.ensures
