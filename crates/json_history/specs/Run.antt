@@ -20,7 +20,7 @@ use Rattle.json_history.specs.Replay.{Replays, GainsPrefix, ReplayFails}
 -- the words ask for calls, and of them this holds
 pub record WithCalls (arguments : List (List ℕ)) (holds : List TreeCall → Type 0) : Type 0 where
   pub calls : List TreeCall
-  pub requested_calls : AsksForCalls arguments calls
+  pub asked : AsksForCalls arguments calls
   pub so : holds calls
 
 -- why it failed: the words are read before the source is

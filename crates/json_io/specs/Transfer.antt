@@ -40,10 +40,10 @@ PieceCause old new code place = ⊥
 
 -- at most n bytes were taken
 pub record TakesAtMost (n : ℕ) (old new : SourceState) : Type 0 where
-  pub take_vec : List ℕ
-  pub few : length take_vec ≤ n
-  pub consumed : Consumes old.left new.left take_vec
-  pub given_so : new.given ≡ counted (length take_vec) old.given
+  pub taken : List ℕ
+  pub few : length taken ≤ n
+  pub consumed : Consumes old.left new.left taken
+  pub given_so : new.given ≡ counted (length taken) old.given
   pub faults_later : old.faults ≤ new.faults
 
 -- ---- writing

@@ -20,7 +20,7 @@ use Rattle.json_lines.specs.Words.{AsksForColumns, IsLinesRequest}
 -- outcomes of their lines
 pub record OfOutcomes (arguments : List (List ℕ)) (known : Option (List ℕ)) (holds : List Outcome → Type 0) : Type 0 where
   pub command : LinesCommand
-  pub requested_table : AsksForColumns arguments command
+  pub asked : AsksForColumns arguments command
   pub so : IfSome known (λ bytes. (outcomes : List Outcome) × HaveOutcomes command (lines bytes) outcomes × holds outcomes)
 
 -- ---- status 0 or 1: the run is complete
@@ -92,7 +92,7 @@ pub record FailsBeforeReading (error : Error) (old new : Streams) : Type 0 where
 -- the words ask for a command, and a part of it was done
 pub record FailsWhileReading (arguments : List (List ℕ)) (bytes : List ℕ) (error : Error) (old new : Streams) : Type 0 where
   pub command : LinesCommand
-  pub requested_table : AsksForColumns arguments command
+  pub asked : AsksForColumns arguments command
   pub rows : IfSome old.source.left (λ _. AppendsRowsPrefix command bytes old new)
   pub errors : IfSome old.source.left (λ _. TellsErrorsPrefix command bytes error old new)
 
@@ -116,7 +116,7 @@ RunResult arguments old new status = Completes arguments old new status ⊎ ((st
 -- the words ask for a command, the source has at most 4,294,967,295 bytes, which are known, and
 -- no call failed
 pub record NothingFails (arguments : List (List ℕ)) (old new : Streams) : Type 0 where
-  pub requested_table : IsLinesRequest arguments
+  pub asked : IsLinesRequest arguments
   pub bytes : List ℕ
   pub known : old.source.left ≡ Some bytes
   pub few : length bytes ≤ max_bytes

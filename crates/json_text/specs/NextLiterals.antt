@@ -21,7 +21,7 @@ pub record LiteralNext (s : ParserState) (word : List ℕ) : Type 0 where
 
 -- a minus and at most 19 digits, and nothing else, are from i up to j, and the number goes no further
 pub record IsShortNegative (b : List ℕ) (i j : ℕ) : Type 0 where
-  pub scan_number : NumberTo b i j
+  pub number : NumberTo b i j
   pub minus : ByteAt b i 45
   pub digits : all_ascii_digits (piece b (i + 1) j) ≡ true
   pub few : j ≤ i + 20

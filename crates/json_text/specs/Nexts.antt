@@ -43,7 +43,7 @@ NextPart s k v = NextAt (input s) (consumed s) s.open_kinds s.expected k v
 
 -- a number of at most 19 digits, and nothing else, lies from i up to j and goes no further
 pub record IsShortInteger (b : List ℕ) (i j : ℕ) : Type 0 where
-  pub scan_number : NumberTo b i j
+  pub number : NumberTo b i j
   pub digits : all_ascii_digits (piece b i j) ≡ true
   pub few : j ≤ i + 19
 

@@ -50,7 +50,7 @@ pub record IsPrinted (input output : List ℕ) : Type 0 where
 -- this is the summary of made input of n records, and of what is printed of it
 pub record IsSummary (n : ℕ) (text : List ℕ) : Type 0 where
   pub output : List ℕ
-  pub print_made : IsPrinted (made n) output
+  pub printed : IsPrinted (made n) output
   pub sums : text ≡ summary (made n) output
 
 -- the sink gained exactly the summary, and was flushed
