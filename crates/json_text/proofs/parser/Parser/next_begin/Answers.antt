@@ -93,6 +93,6 @@ returns-then-not-takes_value-clause-exactly c = (
         | then-not-takes_value-via-then-not-takes_value w ↦
             absurd (both_ways _ w.if-not-takes_value.true (c.takes_value.ensures.1 (subst TakesValue (sym o.1) h.takes)))
         | then-not-takes_value-via-else-not-takes_value+then-not-byte_is w ↦
-            absurd (both_ways _ w.if-not-byte_is.true (w.byte_is.ensures.1 (subst (λ x. ByteAt b st.at x) (sym w.bracket.ensures) (subst (λ m. ByteAt b m (bracket k)) (sym o.0) q))))
+            absurd (both_ways _ w.if-not-byte_is.true (w.byte_is.ensures.1 (subst (λ x. ByteAt b st.at x) (sym w.opening_byte.ensures) (subst (λ m. ByteAt b m (bracket k)) (sym o.0) q))))
       ]),
 )

@@ -91,7 +91,7 @@ returns-then-not-may_end-clause-exactly c = (
         | then-not-may_end-via-then-not-may_end w ↦
             absurd (both_ways _ w.if-not-may_end.true (c.may_end.ensures.1 (subst (TakesEnd k) (sym o.1) h.takes)))
         | then-not-may_end-via-else-not-may_end+then-not-byte_is w ↦
-            absurd (both_ways _ w.if-not-byte_is.true (w.byte_is.ensures.1 (subst (λ x. ByteAt b st.at x) (sym w.closing.ensures) (subst (λ m. ByteAt b m (closing k)) (sym o.0) q))))
+            absurd (both_ways _ w.if-not-byte_is.true (w.byte_is.ensures.1 (subst (λ x. ByteAt b st.at x) (sym w.closing_byte.ensures) (subst (λ m. ByteAt b m (closing k)) (sym o.0) q))))
       ]),
 )
 
