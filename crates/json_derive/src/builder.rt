@@ -17,7 +17,7 @@ use std::alloc::Global;
 ///
 /// ```
 /// use json_data::from_str;
-/// use json_sample_vectors::account::Customer;
+/// use test_samples::account::Customer;
 /// let ada = from_str::<Customer>(alloc, "{\"age\": 36, \"name\": \"Ada\"}")?;
 /// assert_eq!(rt; (ada.name.as_str(), ada.age), ("Ada", 36));
 /// assert!(rt; ada.phones.is_empty());

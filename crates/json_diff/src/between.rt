@@ -16,7 +16,7 @@ ghost use Rattle.json_io.specs.Errors.{OnlyNoMemory};
 use crate::merge_between::has_unique_keys;
 use itoa::Buffer;
 use json_io::Result;
-use json_patch::push_escaped;
+use json_patch::internal::push_escaped;
 use json_value::{ArrayView, Object, ObjectView, Pair, Text, Value, View};
 use std::alloc::Global;
 

@@ -13,7 +13,7 @@ ghost use Rattle.json_io.specs.Errors.{OnlyNoMemory};
 
 use json_doc::JsonType;
 use json_io::Result;
-use json_patch::single_member;
+use json_patch::internal::single_member;
 use json_value::{Object, ObjectView, Pair, Text, Value, View};
 use std::alloc::Global;
 

@@ -14,7 +14,8 @@ ghost use Rattle.json_doc.specs.Recorded.{SameRoom};
 use crate::document_visitor::DocumentVisitor;
 use crate::reader::{record_event, start_offset};
 use json_grammar::{ExpectedPart, Kind};
-use json_text::{ContainerStack, Cursor, Event, Fault, TokenRead, step};
+use json_text::internal::{ContainerStack, Cursor, TokenRead, step};
+use json_text::{Event, Fault};
 
 // Reads the next event of a text as `step` does, and records it. Each use has a copy of its own.
 #[inline(always)]

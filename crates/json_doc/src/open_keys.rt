@@ -33,7 +33,7 @@ fn byte_or_zero(bytes: &[u8], at: usize) -> u8
 /// bytes.
 ///
 /// ```
-/// use json_doc::front_number;
+/// use json_doc::internal::front_number;
 /// assert_eq!(rt; front_number("b"), 0x62_00_00_00_00_00_00_00);
 /// assert!(rt; front_number("altitude") < front_number("b"));
 /// assert_eq!(rt; front_number("latitude 1"), front_number("latitude 2"));

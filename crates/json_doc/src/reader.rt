@@ -26,7 +26,8 @@ use crate::visitor::JsonVisitor;
 use json_grammar::ExpectedPart;
 use json_io::{Error, ErrorCode, Result, place_of};
 use json_number::{Integer, integer_of_in};
-use json_text::{ContainerStack, Cursor, Event, Parser, Rules, Span};
+use json_text::internal::{ContainerStack, Cursor};
+use json_text::{Event, Parser, Rules, Span};
 use std::alloc::Global;
 use std::rc::Rc;
 

@@ -9,7 +9,8 @@ ghost use Rattle.json_print.specs.Orders.{Rise};
 ghost use Rattle.json_doc_print.specs.KeyOrder.{key_and_number, AreEntries, IsEntry, IsKeyOrder, key_before, numbers_in};
 ghost use Rattle.json_io.specs.Errors.{OnlyNoMemory};
 
-use json_doc::{Doc, DocPairs, front_number};
+use json_doc::internal::front_number;
+use json_doc::{Doc, DocPairs};
 use json_io::Result;
 use std::alloc::Global;
 use std::cmp::Ordering;

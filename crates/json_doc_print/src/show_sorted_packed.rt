@@ -23,7 +23,7 @@ use std::alloc::Global;
 ///
 /// ```
 /// use json_doc::read_document;
-/// use json_doc_print::{SortedLayout, show_sorted_document};
+/// use json_doc_print::internal::{SortedLayout, show_sorted_document};
 /// use json_io::{VecSink, flush_all};
 /// use json_print::{BufferedWriter, ManyLines};
 /// let doc = read_document(alloc, "{\"b\": 1, \"a\": 2}")?;

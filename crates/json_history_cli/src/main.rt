@@ -8,7 +8,7 @@
 
 use json_command::Console;
 use json_history::run_history;
-use json_programs::USAGE_HISTORY;
+use mezdruk_help::USAGE_HISTORY;
 use std::process::ExitCode;
 
 fn main(rt: HostRuntime) -> ExitCode {

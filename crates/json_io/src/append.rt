@@ -231,7 +231,7 @@ pub fn extend_local(out: &mut Vec<u8>, bytes: &[u8])
 /// Appends bytes for which the vector has room, and takes no memory: its capacity stays.
 ///
 /// ```
-/// use json_io::extend_reserved;
+/// use json_io::internal::extend_reserved;
 /// let mut text = Vec::with_capacity(alloc, 6)?;
 /// extend_reserved(&mut text, b"[1, 2]");
 /// assert_eq!(rt; text.as_slice(), b"[1, 2]".as_slice());
@@ -253,7 +253,7 @@ pub fn extend_reserved(out: &mut Vec<u8>, bytes: &[u8])
 /// are.
 ///
 /// ```
-/// use json_io::extend_reserved_from;
+/// use json_io::internal::extend_reserved_from;
 /// let mut text = Vec::with_capacity(alloc, 16)?;
 /// extend_reserved_from(&mut text, b"{\"name\": 1, \"age\": 2}", 2, 6);
 /// assert_eq!(rt; text.as_slice(), b"name".as_slice());
@@ -279,7 +279,7 @@ pub fn extend_reserved_from(out: &mut Vec<u8>, bytes: &[u8], start: usize, end: 
 /// they are.
 ///
 /// ```
-/// use json_io::extend_reserved_blocks;
+/// use json_io::internal::extend_reserved_blocks;
 /// let mut text = Vec::with_capacity(alloc, 32)?;
 /// extend_reserved_blocks(&mut text, b"[12.5, 12.25, 12.125, 12.0625, 1]", 7, 12);
 /// assert_eq!(rt; text.as_slice(), b"12.25".as_slice());

@@ -13,6 +13,7 @@
 mod append;
 mod error;
 mod fake;
+pub mod internal;
 mod lent;
 mod message;
 mod place;
@@ -22,10 +23,6 @@ mod transfer;
 mod utf8;
 mod words;
 
-pub use append::{
-    append_few, append_of_block, extend_local, extend_reserved, extend_reserved_blocks,
-    extend_reserved_from, take_vec,
-};
 pub use error::{Category, Error, ErrorCode, Place, Result};
 pub use fake::{FakeSink, FakeSource};
 pub use lent::LentSink;

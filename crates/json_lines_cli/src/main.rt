@@ -7,7 +7,7 @@
 
 use json_command::Console;
 use json_lines::run_lines;
-use json_programs::USAGE_LINES;
+use mezdruk_help::USAGE_LINES;
 use std::process::ExitCode;
 
 fn main(rt: HostRuntime) -> ExitCode {

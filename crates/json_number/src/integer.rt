@@ -8,7 +8,7 @@ ghost use Rattle.json_number.specs.Numbers.{value_of};
 
 use crate::any_width::{IntegerLiteral, has_minus, integer_literal};
 use crate::number::Number;
-use json_text::{DigitsRead, read_digits};
+use json_text::internal::{DigitsRead, read_digits};
 
 /// The bytes of the longest literals that denote an integer: those of 2^64 - 1 and of -2^63.
 const LONGEST: usize = 20;

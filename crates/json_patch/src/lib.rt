@@ -17,6 +17,7 @@ mod change;
 mod command;
 mod error;
 pub mod examples;
+pub mod internal;
 mod key_index;
 pub mod laws;
 mod lookup;
@@ -29,7 +30,6 @@ mod run;
 
 pub use error::{PatchCode, PatchError};
 pub use merge::apply_merge;
-pub use operation::single_member;
 pub use patch::apply_patch;
-pub use pointer::{Pointer, push_escaped};
+pub use pointer::Pointer;
 pub use run::run_patch;

@@ -7,7 +7,7 @@
 
 use json_command::Console;
 use json_patch::run_patch;
-use json_programs::USAGE_JSON_PATCH;
+use mezdruk_help::USAGE_JSON_PATCH;
 use std::process::ExitCode;
 
 fn main(rt: HostRuntime) -> ExitCode {

@@ -6,8 +6,8 @@
 #![tactic(auto)]
 
 use json_command::Console;
-use json_programs::USAGE_RPC;
 use json_rpc::run_rpc;
+use mezdruk_help::USAGE_RPC;
 use std::process::ExitCode;
 
 fn main(rt: HostRuntime) -> ExitCode {

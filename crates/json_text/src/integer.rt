@@ -137,7 +137,7 @@ pub enum DigitsRead {
 /// beyond `end`. The range must not be empty.
 ///
 /// ```
-/// use json_text::{DigitsRead, read_digits};
+/// use json_text::internal::{DigitsRead, read_digits};
 /// let input = b"[1815, 12.10, 7, 8]";
 /// assert!(rt; matches!(read_digits(input, 1, 5), DigitsRead::Value(1815)));
 /// assert!(rt; matches!(read_digits(input, 1, 6), DigitsRead::NotDigits));

@@ -34,7 +34,8 @@ pub(crate) fn is_whole_value(expected: ExpectedPart, kind: Option<Kind>) -> bool
 ///
 /// ```
 /// use json_grammar::ExpectedPart;
-/// use json_text::{Cursor, Event, ContainerStack, step};
+/// use json_text::Event;
+/// use json_text::internal::{Cursor, ContainerStack, step};
 /// let mut kinds = ContainerStack::new();
 /// let start = Cursor { at: 0, expected: ExpectedPart::Value };
 /// let first = step::<0>("[1.50]", start, 254, false, &mut kinds).ok().ok_or("no value")?;

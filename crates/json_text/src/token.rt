@@ -95,7 +95,8 @@ pub(crate) fn string_at<'a>(
 ///
 /// ```
 /// use json_grammar::ExpectedPart;
-/// use json_text::{Cursor, Event, ContainerStack, step};
+/// use json_text::Event;
+/// use json_text::internal::{Cursor, ContainerStack, step};
 /// let mut kinds = ContainerStack::new();
 /// let cursor = Cursor { at: 0, expected: ExpectedPart::Value };
 /// let read = step::<0>(" null ", cursor, 254, false, &mut kinds).ok().ok_or("no value")?;
@@ -112,7 +113,8 @@ pub struct TokenRead<'a> {
 ///
 /// ```
 /// use json_grammar::ExpectedPart;
-/// use json_text::{Cursor, Event, ContainerStack, step};
+/// use json_text::Event;
+/// use json_text::internal::{Cursor, ContainerStack, step};
 /// let cursor = Cursor { at: 1, expected: ExpectedPart::First };
 /// let mut kinds = ContainerStack::new();
 /// let array = step::<0>("[2]", Cursor { at: 0, expected: ExpectedPart::Value }, 254, false, &mut kinds);

@@ -8,7 +8,7 @@ ghost use Rattle.json_doc_print.specs.Emitting.{Walks, tree_given};
 use crate::container::Form;
 use crate::pair::Pair;
 use crate::value::Value;
-use json_doc_print::{
+use json_doc_print::internal::{
     EventsResult, emit_elements, emit_members, emit_no_pairs, emit_no_values, emit_number,
     events_result,
 };

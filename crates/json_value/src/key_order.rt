@@ -8,7 +8,7 @@ ghost use Rattle.json_value.specs.OwnedKeys.{numbers_from, owned_key};
 ghost use Rattle.json_io.specs.Errors.{OnlyNoMemory};
 
 use crate::pair::Pair;
-use json_doc_print::{IndexedMember, MemberKeys, entry_of, is_less, sort_by_key};
+use json_doc_print::internal::{IndexedMember, MemberKeys, entry_of, is_less, sort_by_key};
 use json_io::Result;
 use std::alloc::Global;
 

@@ -10,7 +10,7 @@ use crate::container::Form;
 use crate::pair::Pair;
 use crate::text::Text;
 use crate::value::Value;
-use json_doc_print::{show_bool, show_elements, show_members, show_number};
+use json_doc_print::internal::{show_bool, show_elements, show_members, show_number};
 use json_io::{Sink, SinkError, SinkResult};
 use json_layout::{BufferedWriter, Layout, show_piece, show_text};
 

@@ -13,7 +13,7 @@ use crate::key_order::{owned_in_order, owned_never_fall};
 use crate::pair::Pair;
 use crate::show_owned::show_key;
 use crate::value::Value;
-use json_doc_print::{
+use json_doc_print::internal::{
     SortedLayout, show_bool, show_number, show_sorted_elements, show_sorted_members,
 };
 use json_io::{Sink, SinkError, SinkResult};

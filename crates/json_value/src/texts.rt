@@ -10,7 +10,7 @@ use crate::array::Array;
 use crate::container::Form;
 use crate::object::Object;
 use crate::show_owned::{show_owned_pairs, show_values};
-use json_doc_print::{show_elements, show_members};
+use json_doc_print::internal::{show_elements, show_members};
 use json_io::{Result, Sink, SinkResult, VecSink, flush_all};
 use json_layout::{BufferedWriter, OneLine, show_piece};
 use std::alloc::Global;

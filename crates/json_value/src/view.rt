@@ -36,7 +36,7 @@ use crate::show_owned::show_value;
 use crate::show_sorted::show_sorted_value;
 use crate::value::Value;
 use json_doc::{Doc, DocView, JsonType};
-use json_doc_print::{
+use json_doc_print::internal::{
     EventsFailed, EventsResult, SortedLayout, emit_document, events_result, show_document,
     show_sorted_document,
 };

@@ -3,19 +3,19 @@
 use crate::files::{ReadFault, read_bytes, report_unread};
 use crate::missing::Target;
 use crate::run::{Work, run_files};
-use json_arguments::{
+use json_command::{Console, Status, report_text};
+use json_data::from_value;
+use json_text::{Words, check_utf8};
+use json_value::{Path, Value};
+use mezdruk_arguments::{
     Arguments, ArgumentsError, OperandError, OperandKind, Problem, RequestedInput as FormAsked,
     Settings, Verb, arguments_report, operand_file_report, read_operand, requested_edits,
     split_pointer,
 };
-use json_command::{Console, Status, report_text};
-use json_data::from_value;
-use json_files::{
+use mezdruk_files::{
     ApplyMerge, ApplyPatch, EditAll, EditAt, GetPath, GetPointer, InputForm, Job, Unchanged,
     ValueChange,
 };
-use json_text::{Words, check_utf8};
-use json_value::{Path, Value};
 use std::alloc::AllocError;
 
 // A command with its options and files.

@@ -1,8 +1,8 @@
 // Documents from files and from standard input.
 
 use json_command::{Console, Status, report_text};
-use json_files::{NamedDocument, file_report};
 use json_text::{ErrorCode, Source, StdSource, read_all};
+use mezdruk_files::{NamedDocument, file_report};
 use std::alloc::Global;
 use std::fs::File;
 use std::{fs, io};

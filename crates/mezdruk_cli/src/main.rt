@@ -1,5 +1,5 @@
 //! The program `mezdruk`: lays out, checks, reads and edits JSON documents in files. The arguments
-//! are read by `json_arguments`, and documents in memory are changed and printed by `json_files`;
+//! are read by `mezdruk_arguments`, and documents in memory are changed and printed by `mezdruk_files`;
 //! what is here opens files, reads them, and writes them in place. Where the first argument names
 //! another program, `mezdruk_programs` runs that one on the arguments after it.
 //!
@@ -15,8 +15,8 @@ mod run;
 
 use crate::run::run;
 use json_command::{Console, Status, report_text};
-use json_programs::ABOUT_MEZDRUK;
 use json_text::StdSink;
+use mezdruk_help::ABOUT_MEZDRUK;
 use std::process::ExitCode;
 
 /// What is reported if the arguments could not be read.

@@ -1,7 +1,8 @@
 // Hints where a command leads to no value of a document, or to one of another kind.
 
 use json_doc::{JsonType, read_document_with};
-use json_patch::{Pointer, push_escaped};
+use json_patch::Pointer;
+use json_patch::internal::push_escaped;
 use json_text::{Result, Rules, check_utf8};
 use json_value::{Edit, Path, PointerNode, Value, View};
 use std::alloc::Global;

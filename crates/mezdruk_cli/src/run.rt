@@ -5,13 +5,13 @@ use crate::files::{read_document, reason_of, refuse_irregular, report_file, repo
 use crate::in_place::replace_content;
 use crate::missing::{Target, hint_of_target};
 use crate::outlet::Outlet;
-use json_arguments::{help_asked, read_arguments};
 use json_command::{Console, Status, report_text, write_text};
-use json_files::{
+use json_text::{StdSink, VecSink, Words};
+use mezdruk_arguments::{help_asked, read_arguments};
+use mezdruk_files::{
     EditedText, InputForm, Job, NamedDocument, ValueChange, edit_document, print_documents,
 };
-use json_programs::ABOUT_MEZDRUK;
-use json_text::{StdSink, VecSink, Words};
+use mezdruk_help::ABOUT_MEZDRUK;
 use mezdruk_programs::run_named;
 use std::cell::Cell;
 use std::slice;

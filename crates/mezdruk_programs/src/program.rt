@@ -6,8 +6,8 @@ use json_command::Status;
 use json_history::run_history;
 use json_io::{Result, Sink, Source, Words};
 use json_lines::run_lines;
-use json_programs::{USAGE_HISTORY, USAGE_LINES, USAGE_RESHAPE, USAGE_RPC, Usage};
 use json_rpc::run_rpc;
+use mezdruk_help::{USAGE_HISTORY, USAGE_LINES, USAGE_RESHAPE, USAGE_RPC, Usage};
 use std::alloc::Global;
 
 /// A program that runs in place of the tool.

@@ -6,7 +6,7 @@
 #![tactic(auto)]
 
 use json_command::Console;
-use json_programs::USAGE_RESHAPE;
+use mezdruk_help::USAGE_RESHAPE;
 use reshape::run;
 use std::process::ExitCode;
 

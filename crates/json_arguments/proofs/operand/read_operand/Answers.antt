@@ -1,7 +1,0 @@
-use Rattle.std.proofs.Common.{inr, sym, ◌∙◌}
-use Rattle.json_value.specs.Denotes.{tree_of}
-use Rattle.json_arguments.proofs.Operands.{not_operand}
-use Rattle.json_arguments.proofs.operand.read_operand.Goals as goal
-
-pub returns-clause-err : goal.returns-clause-err
-returns-clause-err c = inr (not_operand c.args.kind c.args.word.now (tree_of c.in_ok-value.value) c.in_ok-value.ensures.ok (sym c.in_ok-has_form.ensures.ok ∙ c.if-branch.false))

@@ -1,5 +1,0 @@
-use Rattle.std.proofs.Common.{length}
-use Rattle.json_programs.proofs.first_invalid.+option_named.Given as goal
-
-abbrev pub decreases-option_named : goal.decreases-option_named
-decreases-option_named l = length l.options.now

@@ -1,0 +1,212 @@
+// The help of each command.
+ghost use Rattle.std.specs.Prelude.{◌≡◌};
+ghost use Rattle.mezdruk_arguments.specs.Help.{help_asked};
+
+use crate::verb::Verb;
+use json_io::Words;
+
+/// Returns the command whose help the arguments ask for: its name and then `--help` or `-h`, and
+/// nothing more. Returns `None` for all else.
+///
+/// ```
+/// use mezdruk_arguments::{Verb, help_asked};
+/// use json_text::Words;
+/// let mut words = Words::new(alloc);
+/// words.push("fmt")?;
+/// assert_eq!(rt; help_asked(&words), None);
+/// words.push("--help")?;
+/// assert_eq!(rt; help_asked(&words), Some(Verb::Fmt));
+/// assert!(rt; Verb::Fmt.help().starts_with("mezdruk fmt"));
+/// ```
+pub fn help_asked(words: &Words) -> Option<Verb>
+    ensures { result ≡ help_asked words.now }
+{
+    if words.len() != 2 {
+        return None;
+    }
+    match words.word(1) {
+        "--help" | "-h" => Verb::of_word(words.word(0)),
+        _ => None,
+    }
+}
+
+impl Verb {
+    /// Returns what the help of the command says: its usage, what it does, its operands, and its
+    /// options beside those of every command.
+    pub fn help(self) -> &'static str {
+        match self {
+            Verb::Fmt => FMT,
+            Verb::Check => CHECK,
+            Verb::Get => GET,
+            Verb::Edit => EDIT,
+            Verb::Set => SET,
+            Verb::Insert => INSERT,
+            Verb::Push => PUSH,
+            Verb::Remove => REMOVE,
+            Verb::Patch => PATCH,
+            Verb::Merge => MERGE,
+        }
+    }
+}
+
+/// The help of `fmt`.
+const FMT: &str = "\
+mezdruk fmt [OPTION..] [FILE..]
+
+Lays documents out, by two spaces if no option asks for another layout.
+
+Layouts: -c, --compact; --pretty; --indent=N; --tabs; beside one -S, --sort-keys
+Input:   --unique-keys, --depth=N, --lines, --stream
+Output:  -i, --in-place writes each FILE in place
+
+  mezdruk fmt --indent=4 -i package.json
+`mezdruk --help` says more of each option.
+";
+
+/// The help of `check`.
+const CHECK: &str = "\
+mezdruk check [OPTION..] [FILE..]
+
+Prints nothing but errors. The status is 1 if a document is not valid.
+
+Input:   --unique-keys, --depth=N, --lines, --stream
+
+  mezdruk check --unique-keys *.json
+`mezdruk --help` says more of each option.
+";
+
+/// The help of `get`.
+const GET: &str = "\
+mezdruk get [OPTION..] PATH [FILE..]
+
+Prints the value at PATH: a JSON Pointer, as /tags/0, or a JSON array of steps,
+as '[\"tags\", 0]'. The empty pointer is the whole document.
+
+Layouts: -c, --compact; --pretty; --indent=N; --tabs; beside one -S, --sort-keys
+Input:   --unique-keys, --depth=N, --lines, --stream
+Output:  -r, --raw prints a string's content
+
+  mezdruk get --raw /version package.json
+`mezdruk --help` says more of each option.
+";
+
+/// The help of `edit`.
+const EDIT: &str = "\
+mezdruk edit [OPTION..] EDITS [FILE..]
+mezdruk edit [OPTION..] --edits=FILE [FILE..]
+
+Applies a JSON array of edits in turn: [\"set\", path, value],
+[\"insert\", path, key, value], [\"push\", path, value] and
+[\"remove\", path, step]. A path is an array of steps.
+
+Layouts: -c, --compact; --pretty; --indent=N; --tabs; beside one -S, --sort-keys
+Input:   --unique-keys, --depth=N, --lines, --stream
+Output:  -i, --in-place writes each FILE in place, in the layout that it has
+         if no option asks for one
+
+  mezdruk edit '[[\"set\", [\"version\"], \"1.3.0\"]]' package.json
+`mezdruk --help` says more of each option.
+";
+
+/// The help of `set`.
+const SET: &str = "\
+mezdruk set [OPTION..] PATH VALUE [FILE..]
+
+Puts VALUE, a JSON text, where PATH leads: a JSON Pointer, as /tags/0, or a JSON
+array of steps, as '[\"tags\", 0]'. What PATH names has to be there; `insert`
+adds a member, and `push` an element.
+
+Value:   --string, before VALUE, takes it as a string: --string Ada
+Layouts: -c, --compact; --pretty; --indent=N; --tabs; beside one -S, --sort-keys
+Input:   --unique-keys, --depth=N, --lines, --stream
+Output:  -i, --in-place writes each FILE in place, in the layout that it has
+         if no option asks for one
+
+  mezdruk set -i /version --string 1.3.0 package.json
+`mezdruk --help` says more of each option.
+";
+
+/// The help of `insert`.
+const INSERT: &str = "\
+mezdruk insert [OPTION..] PATH KEY VALUE [FILE..]
+
+Puts VALUE, a JSON text, at the first member of KEY, a JSON string, in the
+object where PATH leads, or appends such a member. PATH is a JSON Pointer, as
+/scripts, or a JSON array of steps. The empty pointer is the whole document.
+
+Value:   --string, before VALUE, takes it as a string: --string Ada
+Layouts: -c, --compact; --pretty; --indent=N; --tabs; beside one -S, --sort-keys
+Input:   --unique-keys, --depth=N, --lines, --stream
+Output:  -i, --in-place writes each FILE in place, in the layout that it has
+         if no option asks for one
+
+  mezdruk insert '' '\"license\"' --string MIT package.json
+`mezdruk --help` says more of each option.
+";
+
+/// The help of `push`.
+const PUSH: &str = "\
+mezdruk push [OPTION..] PATH VALUE [FILE..]
+
+Appends VALUE, a JSON text, to the array where PATH leads: a JSON Pointer, as
+/tags, or a JSON array of steps, as '[\"tags\"]'.
+
+Value:   --string, before VALUE, takes it as a string: --string Ada
+Layouts: -c, --compact; --pretty; --indent=N; --tabs; beside one -S, --sort-keys
+Input:   --unique-keys, --depth=N, --lines, --stream
+Output:  -i, --in-place writes each FILE in place, in the layout that it has
+         if no option asks for one
+
+  mezdruk push /tags --string new package.json
+`mezdruk --help` says more of each option.
+";
+
+/// The help of `remove`.
+const REMOVE: &str = "\
+mezdruk remove [OPTION..] PATH STEP [FILE..]
+
+Takes all members of a key out of the object where PATH leads, or the element of
+an index out of the array there. PATH is a JSON Pointer, as /tags, or a JSON
+array of steps; STEP is a JSON string or an index from 0.
+
+Layouts: -c, --compact; --pretty; --indent=N; --tabs; beside one -S, --sort-keys
+Input:   --unique-keys, --depth=N, --lines, --stream
+Output:  -i, --in-place writes each FILE in place, in the layout that it has
+         if no option asks for one
+
+  mezdruk remove /tags 0 package.json
+`mezdruk --help` says more of each option.
+";
+
+/// The help of `patch`.
+const PATCH: &str = "\
+mezdruk patch [OPTION..] PATCH [FILE..]
+mezdruk patch [OPTION..] --patch=FILE [FILE..]
+
+Applies a JSON Patch (RFC 6902), all operations or none.
+
+Layouts: -c, --compact; --pretty; --indent=N; --tabs; beside one -S, --sort-keys
+Input:   --unique-keys, --depth=N, --lines, --stream
+Output:  -i, --in-place writes each FILE in place, in the layout that it has
+         if no option asks for one
+
+  mezdruk patch '[{\"op\": \"remove\", \"path\": \"/tags/0\"}]' package.json
+`mezdruk --help` says more of each option.
+";
+
+/// The help of `merge`.
+const MERGE: &str = "\
+mezdruk merge [OPTION..] PATCH [FILE..]
+mezdruk merge [OPTION..] --merge=FILE [FILE..]
+
+Applies a JSON Merge Patch (RFC 7396): its members replace those of the same
+keys, and null takes one out.
+
+Layouts: -c, --compact; --pretty; --indent=N; --tabs; beside one -S, --sort-keys
+Input:   --unique-keys, --depth=N, --lines, --stream
+Output:  -i, --in-place writes each FILE in place, in the layout that it has
+         if no option asks for one
+
+  mezdruk merge '{\"private\": true}' package.json
+`mezdruk --help` says more of each option.
+";

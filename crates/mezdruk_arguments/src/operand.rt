@@ -1,0 +1,195 @@
+// The operands of a command.
+ghost use Rattle.std.specs.Prelude.{◌≡◌, ◌≢◌, ◌⊎◌, is_some, IfOk, IfErr};
+ghost use Rattle.json_io.specs.declared.error.ErrorCode.TheVariants.{NoMemory};
+ghost use Rattle.mezdruk_arguments.specs.Operands.{SpellsOperand, IsOperand, SpellsTree, has_form as formed, path_form, taken_verbatim};
+ghost use Rattle.json_patch.specs.Pointer.{pointer_of};
+ghost use Rattle.json_doc.specs.Docs.{doc_root, doc_tree};
+ghost use Rattle.mezdruk_arguments.specs.declared.problem.OperandError.TheVariants as OperandError;
+ghost use Rattle.json_command.specs.Input.{IsInput, IsValid};
+ghost use Rattle.json_text.specs.Ruled.{usual_rules};
+ghost use Rattle.json_value.specs.Denotes.{tree_of};
+
+use crate::problem::{OperandError, Problem};
+use crate::spelling::{are_edits, first_unspelled, is_path, is_step, parse_pointer};
+use json_doc::{Doc, read_document_with};
+use json_io::{Error, ErrorCode, Place};
+use json_text::Rules;
+use json_value::Value;
+use std::alloc::Global;
+use std::rc::Rc;
+
+/// The greatest number of bytes of an operand that is read.
+const MAX_BYTES: usize = 4_294_967_295;
+
+/// What an operand of a command is.
+///
+/// ```
+/// use mezdruk_arguments::OperandKind;
+/// assert_eq!(rt; OperandKind::Edits.name(), "EDITS");
+/// ```
+#[derive(Clone, Copy, Debug, PartialEq, Eq)]
+pub enum OperandKind {
+    /// Where a value is: a JSON Pointer (RFC 6901), or a JSON array of steps.
+    Path,
+    /// A JSON array of edits.
+    Edits,
+    /// The key of a member: a JSON string.
+    Key,
+    /// A JSON value.
+    Value,
+    /// A string, which the argument is as it is.
+    Text,
+    /// A step: a JSON string or an index.
+    Step,
+    /// A JSON Patch (RFC 6902) or a JSON Merge Patch (RFC 7396).
+    Patch,
+}
+
+impl OperandKind {
+    /// Returns the name by which the help and errors call the operand.
+    pub fn name(self) -> &'static str {
+        match self {
+            OperandKind::Path => "PATH",
+            OperandKind::Edits => "EDITS",
+            OperandKind::Key => "KEY",
+            OperandKind::Value | OperandKind::Text => "VALUE",
+            OperandKind::Step => "STEP",
+            OperandKind::Patch => "PATCH",
+        }
+    }
+}
+
+// Returns the value of a document.
+fn root_value(alloc: Global, doc: &Rc<Doc>) -> Result<Value, OperandError>
+    ensures ok { IfOk result (λ v. tree_of v ≡ doc_tree doc.now.value (doc_root doc.now.value)) }
+    ensures only { IfErr result (λ r. r ≡ OperandError.OutOfMemory) }
+{
+    match Value::from_place(alloc, doc, doc.root()) {
+        Ok(value) => Ok(value),
+        Err(_) => Err(OperandError::OutOfMemory),
+    }
+}
+
+// Returns the refusal of a text with an error.
+fn text_refusal(kind: OperandKind, error: Error) -> OperandError
+    ensures { (result ≡ OperandError.OutOfMemory) ⊎ (error.code ≢ NoMemory) }
+{
+    match error.code {
+        ErrorCode::NoMemory => OperandError::OutOfMemory,
+        _ => OperandError::Invalid(Problem::NoText { kind, error }),
+    }
+}
+
+// Returns the value of a JSON text.
+fn read_operand_text(alloc: Global, kind: OperandKind, text: &str) -> Result<Value, OperandError>
+    ensures ok { IfOk result (λ v. IsInput usual_rules text.now (tree_of v)) }
+    ensures err { IfErr result (λ r. (r ≡ OperandError.OutOfMemory)
+        ⊎ (¬ (IsValid usual_rules text.now))) }
+{
+    if text.len() > MAX_BYTES {
+        let error = Error {
+            code: ErrorCode::TooLarge,
+            place: Place::None,
+        };
+        return Err(OperandError::Invalid(Problem::NoText { kind, error }));
+    }
+    match read_document_with(alloc, text, Rules::usual()) {
+        Ok(doc) => root_value(alloc, &doc),
+        Err(error) => Err(text_refusal(kind, error)),
+    }
+}
+
+// Whether an operand is taken as it is, and is no JSON text.
+fn is_verbatim(kind: OperandKind, word: &str) -> bool
+    ensures { result ≡ taken_verbatim kind word.now }
+{
+    match kind {
+        OperandKind::Path => word.is_empty() || word.as_bytes().starts_with(b"/"),
+        OperandKind::Text => true,
+        _ => false,
+    }
+}
+
+// Whether a text is a JSON Pointer.
+#[tactic(auto, using(crate::proofs::Spelled::is_some_map))]
+fn is_pointer(alloc: Global, text: &str) -> Result<bool, OperandError>
+    ensures ok { IfOk result (λ b. b ≡ is_some (pointer_of text.now)) }
+    ensures only { IfErr result (λ r. r ≡ OperandError.OutOfMemory) }
+{
+    match parse_pointer(alloc, text) {
+        Ok(pointer) => Ok(pointer.is_some()),
+        Err(refusal) => Err(refusal),
+    }
+}
+
+// Returns the value of an operand, whatever its form.
+fn read_spelled(alloc: Global, kind: OperandKind, word: &str) -> Result<Value, OperandError>
+    ensures ok { IfOk result (λ v. SpellsTree kind word.now (tree_of v)) }
+    ensures err { IfErr result (λ r. (r ≡ OperandError.OutOfMemory)
+        ⊎ (¬ (IsOperand kind word.now))) }
+{
+    if !is_verbatim(kind, word) {
+        return read_operand_text(alloc, kind, word);
+    }
+    match Value::copy_str(alloc, word) {
+        Ok(value) => Ok(value),
+        Err(_) => Err(OperandError::OutOfMemory),
+    }
+}
+
+// Whether a path has its form.
+fn is_path_form(alloc: Global, word: &str, value: &Value) -> Result<bool, OperandError>
+    ensures ok { IfOk result (λ b. b ≡ path_form word.now (tree_of value.now)) }
+    ensures only { IfErr result (λ r. r ≡ OperandError.OutOfMemory) }
+{
+    if is_verbatim(OperandKind::Path, word) {
+        is_pointer(alloc, word)
+    } else {
+        is_path(alloc, value)
+    }
+}
+
+// Whether the value of a word has the form of the operand.
+fn has_form(
+    alloc: Global,
+    kind: OperandKind,
+    word: &str,
+    value: &Value,
+) -> Result<bool, OperandError>
+    ensures ok { IfOk result (λ b. b ≡ formed kind word.now (tree_of value.now)) }
+    ensures only { IfErr result (λ r. r ≡ OperandError.OutOfMemory) }
+{
+    match kind {
+        OperandKind::Value | OperandKind::Text | OperandKind::Patch => Ok(true),
+        OperandKind::Key => Ok(value.view().text().is_some()),
+        OperandKind::Step => Ok(is_step(value.view())),
+        OperandKind::Path => is_path_form(alloc, word, value),
+        OperandKind::Edits => are_edits(alloc, value),
+    }
+}
+
+/// Returns the value that the text of an operand spells: a string of the text itself for a path
+/// that is empty or begins with `/`, and for `Text`, and else the value of the JSON text. Fails if
+/// such a path is no JSON Pointer, if another text is no JSON text by the usual rules or its value
+/// has not the form of the operand, and if memory runs out.
+///
+/// ```
+/// use mezdruk_arguments::{OperandKind, read_operand};
+/// let path = read_operand(alloc, OperandKind::Path, "[\"tags\", 0]").map_err(|_| "no path")?;
+/// assert!(rt; path.view().as_array().is_some());
+/// let path = read_operand(alloc, OperandKind::Path, "/tags/0").map_err(|_| "no path")?;
+/// assert_eq!(rt; path.view().text(), Some("/tags/0"));
+/// assert!(rt; read_operand(alloc, OperandKind::Step, "1.5").is_err());
+/// ```
+pub fn read_operand(alloc: Global, kind: OperandKind, word: &str) -> Result<Value, OperandError>
+    ensures ok { IfOk result (λ v. SpellsOperand kind word.now (tree_of v)) }
+    ensures err { IfErr result (λ r. (r ≡ OperandError.OutOfMemory)
+        ⊎ (¬ (IsOperand kind word.now))) }
+{
+    let value = read_spelled(alloc, kind, word)?;
+    if has_form(alloc, kind, word, &value)? {
+        return Ok(value);
+    }
+    let element = first_unspelled(alloc, kind, &value);
+    Err(OperandError::Invalid(Problem::WrongForm { kind, element }))
+}

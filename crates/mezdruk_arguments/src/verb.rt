@@ -1,0 +1,129 @@
+// The commands.
+ghost use Rattle.std.specs.Prelude.{◌≡◌, option_map};
+ghost use Rattle.mezdruk_arguments.specs.Edits.{verb_name};
+ghost use Rattle.mezdruk_arguments.specs.Arguments.{verb_in, operands_of, takes, file_in, source_in};
+
+use crate::operand::OperandKind;
+use crate::setting::Setting;
+
+/// A command of `mezdruk`.
+///
+/// ```
+/// use mezdruk_arguments::{OperandKind, Verb};
+/// assert_eq!(rt; Verb::Set.name(), "set");
+/// let operands = [OperandKind::Path, OperandKind::Value];
+/// assert_eq!(rt; Verb::Set.operands(), operands.as_slice());
+/// ```
+#[derive(Clone, Copy, Debug, PartialEq, Eq)]
+pub enum Verb {
+    /// Lays documents out.
+    Fmt,
+    /// Prints nothing but errors.
+    Check,
+    /// Prints the value at a place.
+    Get,
+    /// Applies edits.
+    Edit,
+    /// Puts a value where a path leads.
+    Set,
+    /// Puts a member into the object where a path leads.
+    Insert,
+    /// Appends an element to the array where a path leads.
+    Push,
+    /// Takes a member or an element out.
+    Remove,
+    /// Applies a JSON Patch (RFC 6902).
+    Patch,
+    /// Applies a JSON Merge Patch (RFC 7396).
+    Merge,
+}
+
+// The text after the first equals sign, if the text before it is the name and it is not empty.
+fn text_after_name<'a>(word: &'a str, name: &str) -> Option<&'a str>
+    ensures { option_map (λ s. s.now) result ≡ file_in name.now word.entry.now }
+{
+    let (before, after) = word.split_once('=')?;
+    if before != name || after.is_empty() {
+        return None;
+    }
+    Some(after)
+}
+
+impl Verb {
+    /// Returns the name of the command.
+    pub fn name(self) -> &'static str
+        ensures { result.now ≡ verb_name self }
+    {
+        match self {
+            Verb::Fmt => "fmt",
+            Verb::Check => "check",
+            Verb::Get => "get",
+            Verb::Edit => "edit",
+            Verb::Set => "set",
+            Verb::Insert => "insert",
+            Verb::Push => "push",
+            Verb::Remove => "remove",
+            Verb::Patch => "patch",
+            Verb::Merge => "merge",
+        }
+    }
+
+    /// Returns the command of a word, or `None` if it is the name of none.
+    pub(crate) fn of_word(word: &str) -> Option<Verb>
+        ensures { result ≡ verb_in word.now }
+    {
+        match word {
+            "fmt" => Some(Verb::Fmt),
+            "check" => Some(Verb::Check),
+            "get" => Some(Verb::Get),
+            "edit" => Some(Verb::Edit),
+            "set" => Some(Verb::Set),
+            "insert" => Some(Verb::Insert),
+            "push" => Some(Verb::Push),
+            "remove" => Some(Verb::Remove),
+            "patch" => Some(Verb::Patch),
+            "merge" => Some(Verb::Merge),
+            _ => None,
+        }
+    }
+
+    /// Returns the operands that precede the files.
+    pub fn operands(self) -> &'static [OperandKind]
+        ensures { result.now ≡ operands_of self }
+    {
+        match self {
+            Verb::Get => &[OperandKind::Path],
+            Verb::Edit => &[OperandKind::Edits],
+            Verb::Set | Verb::Push => &[OperandKind::Path, OperandKind::Value],
+            Verb::Insert => &[OperandKind::Path, OperandKind::Key, OperandKind::Value],
+            Verb::Remove => &[OperandKind::Path, OperandKind::Step],
+            Verb::Patch | Verb::Merge => &[OperandKind::Patch],
+            Verb::Fmt | Verb::Check => &[],
+        }
+    }
+
+    /// Returns the file that an option names for the operand, or `None` if it names none.
+    pub(crate) fn source_file<'a>(self, word: &'a str) -> Option<&'a str>
+        ensures { option_map (λ s. s.now) result ≡ source_in self word.entry.now }
+    {
+        match self {
+            Verb::Edit => text_after_name(word, "--edits"),
+            Verb::Patch => text_after_name(word, "--patch"),
+            Verb::Merge => text_after_name(word, "--merge"),
+            _ => None,
+        }
+    }
+
+    /// Returns whether the command has such an option.
+    pub(crate) fn takes(self, setting: Setting) -> bool
+        ensures { result ≡ takes self setting }
+    {
+        match setting {
+            Setting::Layout(_) | Setting::SortKeys => self != Verb::Check,
+            Setting::InPlace => self != Verb::Check && self != Verb::Get,
+            Setting::Raw => self == Verb::Get,
+            Setting::StringValue => matches!(self, Verb::Set | Verb::Insert | Verb::Push),
+            _ => true,
+        }
+    }
+}

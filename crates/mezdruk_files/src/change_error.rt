@@ -1,0 +1,68 @@
+// Why a change does not apply.
+ghost use Rattle.std.specs.Prelude.{◌≡◌};
+ghost use Rattle.mezdruk_files.specs.Reports.{change_name};
+ghost use Rattle.mezdruk_files.specs.Sentences.{change_sentence};
+
+/// The kind of a [`ChangeError`].
+///
+/// ```
+/// use mezdruk_files::ChangeCode;
+/// assert_eq!(rt; ChangeCode::TestFailed.name(), "TestFailed");
+/// ```
+#[derive(Clone, Copy, Debug, PartialEq, Eq)]
+pub enum ChangeCode {
+    /// Memory ran out.
+    NoMemory,
+    /// A key or an index is not there.
+    NotFound,
+    /// A key meets no object, or an index no array.
+    TypeUnmatched,
+    /// The patch is not an array of operations (RFC 6902).
+    BadPatch,
+    /// The operation `test` found another value.
+    TestFailed,
+}
+
+impl ChangeCode {
+    /// Returns the name of the code.
+    pub fn name(self) -> &'static str
+        ensures { result.now ≡ change_name self }
+    {
+        match self {
+            ChangeCode::NoMemory => "NoMemory",
+            ChangeCode::NotFound => "NotFound",
+            ChangeCode::TypeUnmatched => "TypeUnmatched",
+            ChangeCode::BadPatch => "BadPatch",
+            ChangeCode::TestFailed => "TestFailed",
+        }
+    }
+
+    /// Returns a sentence about the error.
+    pub(crate) fn sentence(self) -> &'static str
+        ensures { result.now ≡ change_sentence self }
+    {
+        match self {
+            ChangeCode::NoMemory => "memory ran out",
+            ChangeCode::NotFound => "a key or an index is not there",
+            ChangeCode::TypeUnmatched => "a key meets no object, or an index no array",
+            ChangeCode::BadPatch => "the patch is not an array of operations",
+            ChangeCode::TestFailed => "`test` found another value",
+        }
+    }
+}
+
+/// Why a change does not apply to a value.
+///
+/// ```
+/// use mezdruk_files::{ChangeCode, ChangeError};
+/// let error = ChangeError { code: ChangeCode::NotFound, number: Some(2) };
+/// assert_eq!(rt; error.code.name(), "NotFound");
+/// ```
+#[derive(Clone, Copy, Debug, PartialEq, Eq)]
+pub struct ChangeError {
+    /// The kind of the error.
+    pub code: ChangeCode,
+    /// The number of the edit or the operation that does not apply, counted from 0; `None` if
+    /// memory ran out, or if the change has no parts.
+    pub number: Option<u32>,
+}

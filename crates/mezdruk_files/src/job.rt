@@ -1,0 +1,205 @@
+// What is done with each document.
+ghost use Rattle.std.specs.Prelude.{◌≡◌, false, IfOk, IfErr};
+ghost use Rattle.json_command.specs.Printing.{Prints, ReturnsWriteError};
+ghost use Rattle.json_doc.specs.Docs.{doc_root, doc_tree};
+ghost use Rattle.mezdruk_files.specs.Outcomes.{task_of, line_in, printed_or_string};
+ghost use Rattle.json_io.specs.Errors.{OnlyNoMemory};
+ghost use Rattle.mezdruk_files.specs.Running.{IsMade, PrintsTree, PrintingStops, PrintsBytes, BytesStop};
+ghost use Rattle.mezdruk_files.specs.Writing.{WritesOutput};
+ghost use Rattle.mezdruk_files.specs.declared.job.InputForm.TheVariants.{One};
+ghost use Rattle.json_value.specs.Denotes.{tree_of};
+
+use crate::change::ValueChange;
+use crate::change_error::{ChangeCode, ChangeError};
+use crate::document::read_bytes;
+use crate::document_error::DocumentError;
+use json_command::{print_value, write_text};
+use json_doc::Doc;
+use json_io::{Error, ErrorCode, Place, Result, Sink};
+use json_layout::Style;
+use json_text::Rules;
+use json_value::Value;
+use std::alloc::Global;
+use std::rc::Rc;
+
+/// What the bytes of each document are.
+///
+/// ```
+/// use mezdruk_files::{InputForm, Job, Unchanged};
+/// use json_text::Rules;
+/// let job = Job::new(Unchanged, None, Rules::usual());
+/// assert_eq!(rt; job.input, InputForm::One);
+/// ```
+#[derive(Clone, Copy, Debug, PartialEq, Eq)]
+pub enum InputForm {
+    /// One JSON text.
+    One,
+    /// A JSON text on each line. A line that has only whitespace is skipped.
+    Lines,
+    /// Values one after another, which whitespace may separate. They are read by the usual rules,
+    /// up to the first fault.
+    Stream,
+}
+
+/// What is done with each document: how it is read, the change of its value, and how the value is
+/// printed.
+///
+/// ```
+/// use mezdruk_files::{Job, Unchanged};
+/// use json_print::Style;
+/// use json_text::Rules;
+/// let job = Job::new(Unchanged, Style::new(Some("  "), true), Rules::usual());
+/// assert!(rt; job.style.is_some_and(Style::sorted));
+/// assert!(rt; !job.raw);
+/// ```
+#[derive(Drop)]
+pub struct Job<'a, C> {
+    /// The change of the value.
+    pub change: C,
+    /// The style in which it is printed; `None` if it is only checked.
+    pub style: Option<Style<'a>>,
+    /// The rules by which it is read.
+    pub rules: Rules,
+    /// What the bytes of the document are.
+    pub input: InputForm,
+    /// Whether the content of a string is printed in place of its text.
+    pub raw: bool,
+}
+
+impl<'a, C> Job<'a, C> {
+    /// Returns the job over documents of one JSON text each, whose values are printed as texts.
+    pub fn new(change: C, style: Option<Style<'a>>, rules: Rules) -> Job<'a, C>
+        ensures change { result.change ≡ change }
+        ensures style { result.style ≡ style.entry }
+        ensures rules { result.rules ≡ rules }
+        ensures input { result.input ≡ One }
+        ensures raw { result.raw ≡ false }
+    {
+        Job {
+            change,
+            style,
+            rules,
+            input: InputForm::One,
+            raw: false,
+        }
+    }
+}
+
+// The error of a run for which memory ran out.
+const OUT_OF_MEMORY: Error = Error {
+    code: ErrorCode::NoMemory,
+    place: Place::None,
+};
+
+// Prints the text of the value, or the content of a string.
+fn print_document<K: Sink>(
+    alloc: Global,
+    value: &Value,
+    style: Style<'_>,
+    raw: bool,
+    sink: &mut K,
+) -> Result<()>
+    ensures { Prints (K.state sink.old) (K.state sink.new)
+        (printed_or_string raw style.entry (tree_of value.now)) result }
+{
+    if raw {
+        if let Some(content) = value.view().text() {
+            return write_text(sink, content.as_bytes());
+        }
+    }
+    print_value(alloc, value, style, sink)
+}
+
+// Prints the line of the value, or nothing if there is no style.
+fn write_line<K: Sink>(
+    alloc: Global,
+    value: &Value,
+    style: Option<Style<'_>>,
+    raw: bool,
+    sink: &mut K,
+) -> Result<()>
+    ensures { WritesOutput (K.state sink.old) (K.state sink.new)
+        (line_in raw style.entry (tree_of value.now)) result }
+{
+    let Some(style) = style else {
+        return Ok(());
+    };
+    match print_document(alloc, value, style, raw, sink) {
+        Ok(()) => write_text(sink, b"\n"),
+        Err(error) => Err(error),
+    }
+}
+
+// Changes the value of a document. Returns the changed value, or why the change does not apply.
+fn changed_value<C: ValueChange>(
+    alloc: Global,
+    doc: &Rc<Doc>,
+    change: &C,
+) -> Result<std::result::Result<Value, ChangeError>>
+    ensures ok { IfOk result (λ made. IsMade
+        (C.changed change.now (doc_tree doc.now.value (doc_root doc.now.value))) made) }
+    ensures only { OnlyNoMemory result }
+{
+    let mut value = Value::from_place(alloc, doc, doc.root())?;
+    match change.apply(alloc, &mut value) {
+        Ok(()) => Ok(Ok(value)),
+        Err(error) => match error.code {
+            ChangeCode::NoMemory => Err(OUT_OF_MEMORY),
+            _ => Ok(Err(error)),
+        },
+    }
+}
+
+/// Changes the value of a document and prints its line, or returns why the change does not apply.
+/// Fails with `Io` at `Writing` if the sink fails, and with `NoMemory` if memory runs out.
+pub(crate) fn print_changed<C: ValueChange, K: Sink>(
+    alloc: Global,
+    doc: &Rc<Doc>,
+    job: &Job<'_, C>,
+    sink: &mut K,
+) -> Result<Option<ChangeError>>
+    ensures ok { IfOk result (PrintsTree (task_of C.changed job.now)
+        (doc_tree doc.now.value (doc_root doc.now.value)) (K.state sink.old) (K.state sink.new)) }
+    ensures err { IfErr result (PrintingStops (task_of C.changed job.now)
+        (doc_tree doc.now.value (doc_root doc.now.value)) (K.state sink.old) (K.state sink.new)) }
+    ensures reported { ReturnsWriteError (K.state sink.old) (K.state sink.new) result }
+{
+    let value = match changed_value(alloc, doc, &job.change) {
+        Ok(Ok(value)) => value,
+        Ok(Err(error)) => return Ok(Some(error)),
+        Err(error) => return Err(error),
+    };
+    match write_line(alloc, &value, job.style, job.raw, sink) {
+        Ok(()) => Ok(None),
+        Err(error) => Err(error),
+    }
+}
+
+/// Reads the document of the bytes, changes its value and prints its line, or returns the error
+/// that the bytes have. Fails with `Io` at `Writing` if the sink fails, and with `NoMemory` if
+/// memory runs out.
+pub(crate) fn print_bytes<C: ValueChange, K: Sink>(
+    alloc: Global,
+    bytes: &[u8],
+    job: &Job<'_, C>,
+    sink: &mut K,
+) -> Result<Option<DocumentError>>
+    ensures ok { IfOk result (PrintsBytes (task_of C.changed job.now) bytes.now
+        (K.state sink.old) (K.state sink.new)) }
+    ensures err { IfErr result (BytesStop (task_of C.changed job.now) bytes.now
+        (K.state sink.old) (K.state sink.new)) }
+    ensures reported { ReturnsWriteError (K.state sink.old) (K.state sink.new) result }
+{
+    let doc = match read_bytes(alloc, bytes, job.rules) {
+        Ok(doc) => doc,
+        Err(error) => match (error.code, error.place) {
+            (ErrorCode::NoMemory, Place::None) => return Err(error),
+            (_, _) => return Ok(Some(DocumentError::Input(error))),
+        },
+    };
+    match print_changed(alloc, &doc, job, sink) {
+        Ok(None) => Ok(None),
+        Ok(Some(error)) => Ok(Some(DocumentError::Change(error))),
+        Err(error) => Err(error),
+    }
+}

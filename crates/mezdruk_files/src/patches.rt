@@ -1,0 +1,156 @@
+// Patches and merge patches as changes.
+ghost use Rattle.std.specs.Prelude.{◌≡◌, ◌<◌, ◌↔◌, ◌^◌, ℕ, length, Ok, None, Option, Result, IsTrue, IsSome, IfSome};
+ghost use Rattle.json_doc.specs.Readings.{elements};
+ghost use Rattle.mezdruk_files.specs.Changes.{ChangeFails};
+ghost use Rattle.mezdruk_files.specs.PatchOutcomes.{outcome_of_patch};
+ghost use Rattle.json_grammar.specs.Tree.{Tree};
+ghost use Rattle.json_patch.specs.Errors.{PatchFails};
+ghost use Rattle.json_patch.specs.Merge.{merge_patched};
+ghost use Rattle.json_patch.specs.Patch.{PatchFailure, patched};
+ghost use Rattle.json_value.specs.Seen.{seen};
+
+use crate::change::ValueChange;
+use crate::change_error::{ChangeCode, ChangeError};
+use json_patch::{PatchCode, PatchError, apply_merge, apply_patch};
+use json_value::{Value, View};
+use std::alloc::Global;
+
+/// The change by a JSON Patch (RFC 6902).
+///
+/// ```
+/// use json_doc::read_document;
+/// use mezdruk_files::{ApplyPatch, ValueChange};
+/// use json_value::{Value, View};
+/// let patch = read_document(alloc, "[{\"op\": \"replace\", \"path\": \"\", \"value\": 1}]")?;
+/// let change = ApplyPatch::new(View::packed(patch.view())).ok_or("too many operations")?;
+/// let mut value = Value::Null;
+/// assert!(rt; change.apply(alloc, &mut value).is_ok());
+/// assert_eq!(rt; value.to_string(alloc)?.as_str(), "1");
+/// ```
+#[derive(Clone, Copy, Drop)]
+pub struct ApplyPatch<'a> {
+    patch: View<'a>,
+    ghost few: { length (elements (seen patch)) < 2 ^ 32 },
+}
+
+/// The change by a JSON Merge Patch (RFC 7396).
+///
+/// ```
+/// use json_doc::read_document;
+/// use mezdruk_files::{ApplyMerge, ValueChange};
+/// use json_value::{Value, View};
+/// let patch = read_document(alloc, "{\"a\": 1}")?;
+/// let change = ApplyMerge::new(View::packed(patch.view()));
+/// let mut value = Value::Null;
+/// assert!(rt; change.apply(alloc, &mut value).is_ok());
+/// assert_eq!(rt; value.to_string(alloc)?.as_str(), "{\"a\":1}");
+/// ```
+#[derive(Clone, Copy, Drop)]
+pub struct ApplyMerge<'a> {
+    patch: View<'a>,
+}
+
+// Returns whether a patch has fewer than 4,294,967,296 operations.
+fn has_few_operations(patch: View<'_>) -> bool
+    ensures { IsTrue result ↔ (length (elements (seen patch.entry)) < 2 ^ 32) }
+{
+    match patch.as_array() {
+        Some(list) => list.len() <= u32::MAX as usize,
+        None => true,
+    }
+}
+
+impl<'a> ApplyPatch<'a> {
+    ghost use Rattle.mezdruk_files.specs.Patches.{patch_tree};
+
+    /// Returns the change by this patch; `None` if it has 4,294,967,296 or more operations. One
+    /// that is not an array of operations applies to no value.
+    pub fn new(patch: View<'a>) -> Option<ApplyPatch<'a>>
+        ensures some { IsSome result ↔ (length (elements (seen patch.entry)) < 2 ^ 32) }
+        ensures patch { IfSome result (λ change. patch_tree change ≡ seen patch.entry) }
+    {
+        if has_few_operations(patch) {
+            Some(ApplyPatch { patch })
+        } else {
+            None
+        }
+    }
+}
+
+impl<'a> ApplyMerge<'a> {
+    ghost use Rattle.mezdruk_files.specs.Patches.{merge_tree};
+
+    /// Returns the change by this merge patch.
+    pub fn new(patch: View<'a>) -> ApplyMerge<'a>
+        ensures { merge_tree result ≡ seen patch.entry }
+    {
+        ApplyMerge { patch }
+    }
+}
+
+// Returns the error of a patch.
+fn change_error(error: PatchError) -> ChangeError
+    ensures { (made : Result Tree (PatchFailure × Option ℕ)) → PatchFails made error.code error.op
+        → ChangeFails (outcome_of_patch made) result }
+{
+    let number = error.op;
+    match error.code {
+        PatchCode::NotFound => ChangeError {
+            code: ChangeCode::NotFound,
+            number,
+        },
+        PatchCode::TypeUnmatched => ChangeError {
+            code: ChangeCode::TypeUnmatched,
+            number,
+        },
+        PatchCode::BadPatch => ChangeError {
+            code: ChangeCode::BadPatch,
+            number,
+        },
+        PatchCode::TestFailed => ChangeError {
+            code: ChangeCode::TestFailed,
+            number,
+        },
+        PatchCode::NoMemory | PatchCode::BadPointer => ChangeError {
+            code: ChangeCode::NoMemory,
+            number: None,
+        },
+    }
+}
+
+impl<'a> ValueChange for ApplyPatch<'a> {
+    ghost use Rattle.mezdruk_files.specs.Patches.{patch_tree};
+
+    ghost changed = { λ change tree. outcome_of_patch (patched tree (patch_tree change)) };
+
+    fn apply(&self, alloc: Global, value: &mut Value) -> Result<(), ChangeError> {
+        match apply_patch(alloc, value, self.patch) {
+            Ok(()) => Ok(()),
+            Err(error) => Err(change_error(error)),
+        }
+    }
+
+    fn part_name(&self) -> &'static str {
+        "operation"
+    }
+}
+
+impl<'a> ValueChange for ApplyMerge<'a> {
+    ghost use Rattle.mezdruk_files.specs.Patches.{merge_tree};
+
+    ghost changed = { λ change tree. Ok (merge_patched tree (merge_tree change)) };
+
+    fn apply(&self, alloc: Global, value: &mut Value) -> Result<(), ChangeError> {
+        match apply_merge(alloc, value, self.patch) {
+            Ok(()) => Ok(()),
+            Err(_) => Err(ChangeError {
+                code: ChangeCode::NoMemory,
+                number: None,
+            }),
+        }
+    }
+
+    fn part_name(&self) -> &'static str {
+        "member"
+    }
+}
