@@ -13,15 +13,6 @@ use Rattle.mezdruk_files.specs.FoundLayouts.{is_whitespace, after_whitespace, is
 
 -- ---- runs of whitespace
 
-or_true : (a b c d : Bool) → (a ≡ true) ⊎ (b ≡ true) ⊎ (c ≡ true) ⊎ (d ≡ true) → (a || b || c || d) ≡ true
-or_true true b c d h = refl
-or_true false true c d h = refl
-or_true false false true d h = refl
-or_true false false false d (inr (inr (inr e))) = e
-or_true false false false d (inl e) = absurd (cc)
-or_true false false false d (inr (inl e)) = absurd (cc)
-or_true false false false d (inr (inr (inl e))) = absurd (cc)
-
 true_or : (a b c d : Bool) → (a || b || c || d) ≡ true → (a ≡ true) ⊎ (b ≡ true) ⊎ (c ≡ true) ⊎ (d ≡ true)
 true_or true b c d h = inl refl
 true_or false true c d h = inr (inl refl)

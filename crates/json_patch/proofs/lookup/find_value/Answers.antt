@@ -6,7 +6,7 @@ use Rattle.json_patch.specs.Lookups.{value_at_token}
 use Rattle.json_patch.specs.Pointer.{ReferenceToken, value_at_pointer}
 use Rattle.json_patch.specs.PointerTargets.{target_at_token, target_at_pointer}
 use Rattle.json_patch.proofs.Lookups.{drop_item, value_at_pointer-cons}
-use Rattle.json_patch.proofs.PointerTargets.{sight_at_pointer-next}
+use Rattle.json_patch.proofs.PointerTargets.{target_at_pointer-next}
 use Rattle.json_patch.proofs.lookup.find_value.Goals as goal
 
 pub loop-token-preserved : goal.loop-token-preserved
@@ -22,5 +22,5 @@ loop-token-preserved c =
     let placed = subst (λ (b : ReferenceToken). target_at_token b (seen here) (view_target here) ≡ Some (view_target next)) c.deref.ensures c.in_ok-here.ensures.target in
     record {
       tree = c.loop-token.invariant.tree ∙ ap (λ q. value_at_pointer q (seen here)) e ∙ value_at_pointer-cons k p (seen here) ∙ ap (λ r. and_then r (value_at_pointer p)) named;
-      target = c.loop-token.invariant.target ∙ ap (λ q. target_at_pointer q (seen here) (view_target here)) e ∙ sight_at_pointer-next k p (seen here) (seen next) (view_target here) (view_target next) named placed;
+      target = c.loop-token.invariant.target ∙ ap (λ q. target_at_pointer q (seen here) (view_target here)) e ∙ target_at_pointer-next k p (seen here) (seen next) (view_target here) (view_target next) named placed;
     }

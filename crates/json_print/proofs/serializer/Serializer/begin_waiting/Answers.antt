@@ -3,7 +3,7 @@ use Rattle.std.proofs.lemmas.Result.{err_from_is_err_and}
 use Rattle.json_print.specs.Calls.{begin_call}
 use Rattle.json_print.specs.Printer.{SerializerState, call, opened_up, value_begun}
 use Rattle.json_print.specs.Serializing.{out_of}
-use Rattle.json_print.proofs.Stopping.{exits, Stopped-on, Stopped-step, Steps-from, Begins-refl, call_begins, begun_begins, begun_calm, begin_called}
+use Rattle.json_print.proofs.Stopping.{exits, StopsShort-on, StopsShort-step, Steps-from, Begins-refl, call_begins, begun_begins, begun_calm, begin_called}
 use Rattle.json_print.proofs.serializer.Serializer.begin_waiting.Goals as goal
 
 pub returns-in_err-value_begin : goal.returns-in_err-value_begin
@@ -11,14 +11,14 @@ returns-in_err-value_begin g c =
     let m = g.F.Formatter.form in
     let old : SerializerState g.row.F.Denot = out_of g.W.Sink.state c.args.self.now in
     exits old _ _ _ _ _ (err_from_is_err_and c.from_residual.result c.from_residual.ensures.1)
-    (Stopped-on old _ _ _ _ c.in_err-value_begin.ensures.stops (call_begins m (value_begun m old) (begin_call c.args.kind)))
+    (StopsShort-on old _ _ _ _ c.in_err-value_begin.ensures.stops (call_begins m (value_begun m old) (begin_call c.args.kind)))
 
 pub returns-in_err-call_waiting : goal.returns-in_err-call_waiting
 returns-in_err-call_waiting g c =
     let m = g.F.Formatter.form in
     let old : SerializerState g.row.F.Denot = out_of g.W.Sink.state c.args.self.now in
     exits old _ _ _ _ _ (err_from_is_err_and c.from_residual-in_err-call_waiting.result c.from_residual-in_err-call_waiting.ensures.1)
-    (Stopped-step old (value_begun m old) _ _ _ (λ s. call m s (begin_call c.args.kind)) _ _ (begun_begins m old) (begun_calm m old) c.in_ok-value_begin.ensures.ok c.in_err-call_waiting.ensures (Begins-refl _))
+    (StopsShort-step old (value_begun m old) _ _ _ (λ s. call m s (begin_call c.args.kind)) _ _ (begun_begins m old) (begun_calm m old) c.in_ok-value_begin.ensures.ok c.in_err-call_waiting.ensures (Begins-refl _))
 
 pub returns : goal.returns
 returns g c =

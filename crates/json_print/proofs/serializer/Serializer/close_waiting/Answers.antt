@@ -3,7 +3,7 @@ use Rattle.std.proofs.lemmas.Result.{err_from_is_err_and}
 use Rattle.json_print.specs.Calls.{end_call}
 use Rattle.json_print.specs.Printer.{SerializerState, call, value_ended}
 use Rattle.json_print.specs.Serializing.{out_of}
-use Rattle.json_print.proofs.Stopping.{exits, Stopped-on, Steps-from, call_begins, ended_begins, popped, shut, shut_same}
+use Rattle.json_print.proofs.Stopping.{exits, StopsShort-on, Steps-from, call_begins, ended_begins, popped, shut, shut_same}
 use Rattle.json_print.proofs.serializer.Serializer.close_waiting.Goals as goal
 
 pub returns-in_err-call_waiting : goal.returns-in_err-call_waiting
@@ -11,7 +11,7 @@ returns-in_err-call_waiting g c =
     let m = g.F.Formatter.form in
     let old : SerializerState g.row.F.Denot = out_of g.W.Sink.state c.args.self.now in
     exits old _ _ _ _ _ (err_from_is_err_and c.from_residual.result c.from_residual.ensures.1)
-    (Stopped-on old _ _ _ _ c.in_err-call_waiting.ensures.stops (ended_begins m (shut (call m old (end_call c.args.kind)))))
+    (StopsShort-on old _ _ _ _ c.in_err-call_waiting.ensures.stops (ended_begins m (shut (call m old (end_call c.args.kind)))))
 
 pub returns : goal.returns
 returns g c =
