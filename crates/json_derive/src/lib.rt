@@ -18,9 +18,9 @@
 //! }
 //! ```
 //!
-//! The members may be in any order, and the last one of a name counts. A field of the type `Option`
-//! is `None` where its member is missing. Members of other names are skipped, or refused under `//
-//! json: derive strict`.
+//! The members may be in any order. Each member of a field's name has to be of the field's type,
+//! and the last one counts. A field of the type `Option` is `None` where its member is missing.
+//! Members of other names are skipped, or refused under `// json: derive strict`.
 #![tactic(auto)]
 
 mod builder;

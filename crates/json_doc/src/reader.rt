@@ -1,5 +1,5 @@
 // Reads a text into a document.
-ghost use Rattle.std.specs.Prelude.{◌≡◌, ◌⊎◌, ◌+◌, ◌-◌, ◌/◌, ◌≤◌, ◌<◌, ◌^◌, List, ℕ, [], ◌∷◌, ◌++◌, length, true, false, None, Some, IfOk, IfErr, OnOk};
+ghost use Rattle.std.specs.Prelude.{◌≡◌, ◌≢◌, ◌⊎◌, ◌+◌, ◌-◌, ◌/◌, ◌≤◌, ◌<◌, ◌^◌, List, ℕ, [], ◌∷◌, ◌++◌, length, true, false, None, Some, IfOk, IfErr, OnOk};
 ghost use Rattle.json_grammar.specs.Tree.{Tree, Token, num_token, depth};
 ghost use Rattle.json_grammar.specs.Grammar.{is_text, number};
 ghost use Rattle.json_grammar.specs.Fault.{reads};
@@ -169,7 +169,8 @@ fn check_names<'a>(
     refuse_repeated(keys, event, text, end)
 }
 
-/// Reads the document of a text that fits the rules, by a builder that has room for it.
+/// Reads the document of a text that fits the rules, by a builder that has room for it. Does not run
+/// out of memory unless names have to differ.
 pub(crate) fn read_by(
     builder: DocumentVisitor,
     alloc: Global,
@@ -187,6 +188,8 @@ pub(crate) fn read_by(
     ensures ok { IfOk result (λ d. (t : Tree) × is_text false t text.now × fits t (rules_of rules)
         × IsDocOf d t) }
     ensures err { FailsByRules (rules_of rules) text.now result }
+    ensures calm { (rules_of rules).unique ≡ false
+        → IfErr result (λ e. e.code ≢ ErrorCode.NoMemory) }
 {
     let mut visitor = builder;
     let mut keys = OpenKeys::new(alloc);

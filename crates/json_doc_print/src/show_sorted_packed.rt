@@ -42,8 +42,7 @@ pub struct SortedLayout<L> {
 }
 
 /// Writes the text of the tree that is seen, sorted, with `level` containers around it. Fails with
-/// the sink's error, and with `NoMemory` if memory runs out for an index of members, or at 2^64 - 1
-/// levels.
+/// the sink's error, and with `NoMemory` if memory runs out, or at 2^64 - 1 levels.
 pub fn show_sorted_document<W: Sink, L: Layout>(
     view: DocView<'_>,
     layout: SortedLayout<L>,
@@ -141,7 +140,7 @@ fn keys_in_order(view: DocView<'_>) -> bool
 }
 
 /// Writes the object of the members that are seen, sorted. Fails with the sink's error, and with
-/// `NoMemory` if memory runs out for an index of members, or at 2^64 - 1 levels.
+/// `NoMemory` if memory runs out, or at 2^64 - 1 levels.
 #[cycle(shown_sorted)]
 pub fn show_sorted_members<W: Sink, L: Layout>(
     view: DocView<'_>,
@@ -226,7 +225,7 @@ fn show_by_places<W: Sink, L: Layout>(
 }
 
 /// Writes the array of the elements that are seen, sorted. Fails with the sink's error, and with
-/// `NoMemory` if memory runs out for an index of members, or at 2^64 - 1 levels.
+/// `NoMemory` if memory runs out, or at 2^64 - 1 levels.
 pub fn show_sorted_elements<W: Sink, L: Layout>(
     view: DocView<'_>,
     layout: SortedLayout<L>,

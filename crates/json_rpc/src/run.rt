@@ -117,8 +117,8 @@ fn serve_source<S: Source, K: Sink, E: Sink>(
 ///
 /// A line is a request or a batch of requests. The methods are `get [path]`, `set [path, value]`,
 /// `insert [path, key, value]`, `push [path, value]` and `remove [path, step]`, with parameters by
-/// position alone. A path is an array of keys and indexes. Each reply is compact, ends with a
-/// newline, and is flushed before the next line is read.
+/// position alone. A path is an array of keys and indexes. Each reply is compact and ends with a
+/// newline. That it is flushed before the next line is read is tested, and no clause.
 ///
 /// A line of whitespace alone has no reply. A line of more than 1,048,576 bytes, or that is no JSON
 /// text (RFC 8259) of at most 254 levels in UTF-8, gets the error -32700, and the run goes on.

@@ -126,8 +126,7 @@ impl Service {
     ///
     /// A line of more than 1,048,576 bytes, or that is no JSON text (RFC 8259) of at most 254
     /// levels in UTF-8, has a reply with `ParseError`. Fails with `NoMemory` alone, and then the
-    /// document is as it was. A line that asks for no edit is served on the document itself; a
-    /// batch with an edit on a clone, which shares the parts that were not edited.
+    /// document is as it was; after a line that asks for no edit it is the very value that it was.
     pub fn serve(&mut self, alloc: Global, line: Line<'_>) -> Result<Option<Value>>
         ensures ok { IfOk result (λ o. Serves (document_of self.old) line.entry
             (document_of self.new) (option_map tree_of o)) }
