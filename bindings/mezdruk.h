@@ -55,7 +55,8 @@ enum {
     MEZDRUK_OK = 0,
     MEZDRUK_BAD_TEXT = 1,     /* the text is not valid */
     MEZDRUK_BAD_ARGUMENT = 2, /* the options are not valid, or an argument cannot be read */
-    MEZDRUK_NOT_APPLIED = 3,  /* edits, a patch or a pointer do not apply, or no such node */
+    MEZDRUK_NOT_APPLIED = 3,  /* edits, a patch or a pointer do not apply, or there is no such
+                               * node or merge patch */
     MEZDRUK_NO_MEMORY = 6     /* memory ran out */
 };
 
@@ -95,7 +96,8 @@ enum {
     MEZDRUK_CODE_BAD_POINTER = 29,
     MEZDRUK_CODE_BAD_PATCH = 30,
     MEZDRUK_CODE_TEST_FAILED = 31,
-    MEZDRUK_CODE_BAD_OPTIONS = 32
+    MEZDRUK_CODE_BAD_OPTIONS = 32,
+    MEZDRUK_CODE_NO_MERGE_PATCH = 33
 };
 
 /* ---- options ---- */
@@ -123,7 +125,7 @@ typedef struct mezdruk_owner {
 } mezdruk_owner;
 
 typedef struct mezdruk_buffer {
-    const uint8_t *bytes; /* null if there are none */
+    const uint8_t *bytes; /* of no meaning if there are none */
     size_t length;
     mezdruk_owner owner;
 } mezdruk_buffer;
@@ -191,6 +193,40 @@ mezdruk_status mezdruk_merge(const uint8_t *text, size_t length, const uint8_t *
 mezdruk_status mezdruk_get(const uint8_t *text, size_t length, const uint8_t *pointer,
                            size_t pointer_length, const mezdruk_options *options,
                            mezdruk_buffer *output, mezdruk_fault *fault);
+
+/* The patch (RFC 6902) that leads from a text to another: mezdruk_patch makes of the first what is
+ * the same as the second, and the patch is [] exactly if the two are the same. Both texts are read
+ * by the options. The status is MEZDRUK_BAD_ARGUMENT if the target is not a JSON text. */
+mezdruk_status mezdruk_diff(const uint8_t *text, size_t length, const uint8_t *target,
+                            size_t target_length, const mezdruk_options *options,
+                            mezdruk_buffer *output, mezdruk_fault *fault);
+
+/* The same with a merge patch (RFC 7396). Not every value can be made by one: the status is
+ * MEZDRUK_NOT_APPLIED if a member of the target that the text has not is null, or if a name repeats
+ * in one of two objects that differ. */
+mezdruk_status mezdruk_merge_diff(const uint8_t *text, size_t length, const uint8_t *target,
+                                  size_t target_length, const mezdruk_options *options,
+                                  mezdruk_buffer *output, mezdruk_fault *fault);
+
+/* ---- JSON Lines ---- */
+
+/* A row for each line of the text, in `output`. The columns are a JSON array of 1 to 64 columns
+ * [path, kind], such as [[["id"],"int"],[["tags",0],"text"]]. A kind is "text", "int", "bool" or
+ * "json". A row is the texts of the values at the paths, with tabs between them, a newline at the
+ * end, and - where there is no value of the kind. `has` is a path: a line without a value there has
+ * no row. Each line has a value at the path [].
+ *
+ * Lines of whitespace alone are skipped. A line is bad if it has more than 1,048,576 bytes or is
+ * not a JSON text of at most 254 levels. It has no row, and `errors` gets its number, counted from
+ * 1, a colon, a space, its error and a newline. So `errors` has no bytes exactly if no line is bad.
+ *
+ * The status is MEZDRUK_BAD_ARGUMENT if the columns or the path are others, or not UTF-8, and
+ * MEZDRUK_BAD_TEXT if the text has more than 4,294,967,295 bytes; the output and the errors stay
+ * then. The two are different buffers. */
+mezdruk_status mezdruk_lines(const uint8_t *text, size_t length, const uint8_t *columns,
+                             size_t columns_length, const uint8_t *has, size_t has_length,
+                             mezdruk_buffer *output, mezdruk_buffer *errors,
+                             mezdruk_fault *fault);
 
 /* ---- documents ---- */
 

@@ -12,19 +12,26 @@ static const char PATCH[] = "[{\"op\":\"copy\",\"from\":\"/a\",\"path\":\"/c\"}]
 static const char FAILS[] = "[{\"op\":\"test\",\"path\":\"/a/0\",\"value\":2}]";
 static const char MERGE[] = "{\"a\":{\"z\":[1.50]},\"b\":null}";
 
+static const char COLUMNS[] = "[[[\"a\",1],\"json\"]]";
+
 static const uint8_t *bytes(const char *text) { return (const uint8_t *)text; }
 
 static void calls(int count)
 {
     mezdruk_options options = MEZDRUK_OPTIONS_INIT;
-    mezdruk_buffer output = MEZDRUK_BUFFER_INIT;
+    mezdruk_buffer output = MEZDRUK_BUFFER_INIT, errors = MEZDRUK_BUFFER_INIT;
     mezdruk_document document = MEZDRUK_DOCUMENT_INIT;
     mezdruk_fault fault;
     const uint8_t *text = bytes(TEXT);
     size_t length = strlen(TEXT);
     int i;
-    for (i = 0; i < count; i += 10) {
-        mezdruk_check(text, length - (size_t)(i / 10 % 2), &options, &fault);
+    for (i = 0; i < count; i += 12) {
+        if (i % 12000 == 0)
+            mezdruk_lines(text, length, bytes(COLUMNS), strlen(COLUMNS), bytes("[]"), 2, &output,
+                          &errors, &fault);
+        mezdruk_diff(text, length, bytes(MERGE), strlen(MERGE), &options, &output, &fault);
+        mezdruk_merge_diff(text, length, bytes(MERGE), strlen(MERGE), &options, &output, &fault);
+        mezdruk_check(text, length - (size_t)(i / 12 % 2), &options, &fault);
         mezdruk_edit(text, length, bytes(EDITS), strlen(EDITS), &options, &output, &fault);
         mezdruk_edit(text, length, bytes(UNFIT), strlen(UNFIT), &options, &output, &fault);
         mezdruk_patch(text, length, bytes(PATCH), strlen(PATCH), &options, &output, &fault);
@@ -36,6 +43,7 @@ static void calls(int count)
         mezdruk_print(&document, document.root, &options, &output, &fault);
     }
     mezdruk_free(&output);
+    mezdruk_free(&errors);
     mezdruk_free_document(&document);
 }
 

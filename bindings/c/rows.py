@@ -1,6 +1,8 @@
-"""Writes worked rows of the programs, and of pointers, in the form that tests.c reads.
+"""Writes worked rows of the programs, of pointers, of patches between texts and of lines, in the form
+that rows.c reads.
 
-A line has the name of the call, numbers, and bytes in hex.
+A line has the name of the call, numbers, and bytes in hex: the input, the argument, the output, and
+of lines the path and the errors.
 """
 
 import re
@@ -20,6 +22,9 @@ CODES = {
 }
 
 PATCH_CODES = {"NotFound": 19, "TypeUnmatched": 20, "BadPointer": 29, "BadPatch": 30, "TestFailed": 31}
+
+# Codes that only the C library has.
+BAD_OPTIONS, NO_MERGE_PATCH = 32, 33
 
 # The document of RFC 6901, section 5, and pointers with what they reference in it.
 POINTED = (
@@ -111,8 +116,9 @@ def call_of(words):
     return asked and ("edit", asked[:4], asked[4])
 
 
-def write(call, status, place, options, *fields):
+def write(call, status, place, options, input, argument, output, has=b"", errors=b""):
     """Writes a row."""
+    fields = (input, argument, output, has, errors)
     print(call, status, *place, *options, *(field.hex() + "." for field in fields))
 
 
@@ -140,11 +146,46 @@ def write_pointers():
           b'{\n  "a": -0,\n  "b": 1e2\n}')
 
 
+def table_of(path, name):
+    """Yields the columns of each row of a table whose columns are parted by arrows."""
+    with open(path, encoding="utf-8") as source:
+        table = re.search(rf'{name}: &str =\s*r#"(.*?)"#;', source.read(), re.S).group(1)
+    for line in table.split("\n"):
+        yield [column.encode() for column in line.split(" → ")]
+
+
+def write_diffs(patches, merge_patches):
+    """Writes the rows of patches between texts."""
+    plain, done = (254, 0, 0, 0), (0, -1, 0, 0, -1)
+    for text, target, patch in table_of(patches, "PATCHES"):
+        write("diff", 0, done, plain, text, target, patch)
+    for text, target, patch in table_of(merge_patches, "MERGE_PATCHES"):
+        write("merge_diff", 0, done, plain, text, target, patch)
+    for text, target in table_of(merge_patches, "NONE"):
+        write("merge_diff", 3, (NO_MERGE_PATCH, -1, 0, 0, -1), plain, text, target, b"")
+
+
+def write_lines(path):
+    """Writes the rows of lines for which C can ask: columns, and a path or none."""
+    for text, status, output, error, *words in rows_of(path):
+        paths = [word[6:] for word in words if word.startswith("--has=")]
+        columns = [word for word in words if not word.startswith("--has=")]
+        if len(columns) != 1 or len(paths) > 1:
+            continue
+        errors = "".join(line + "\n" for line in error.split("%0A") if status == "1")
+        code = BAD_OPTIONS if status == "2" else 0
+        write("lines", 2 if code else 0, (code, -1, 0, 0, -1), (254, 0, 0, 0),
+              unquote_to_bytes(text), columns[0].encode(), unquote_to_bytes(output),
+              (paths or ["[]"])[0].encode(), errors.encode())
+
+
 def main():
-    edits, patches = sys.argv[1:]
+    edits, patches, lines, *between = sys.argv[1:]
     write_rows(edits, ("edit",))
     write_rows(patches, ("patch", "merge"))
     write_pointers()
+    write_diffs(*between)
+    write_lines(lines)
 
 
 main()

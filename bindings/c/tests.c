@@ -1,205 +1,6 @@
 /* Calls each function of the library on worked rows, on damaged texts and with memory that runs out.
  * Run it under AddressSanitizer and UndefinedBehaviorSanitizer: ./tests ROWS. */
-#include "mezdruk.h"
-
-#include <stdio.h>
-#include <stdlib.h>
-#include <string.h>
-
-/* ---- memory that runs out: the linker hands each request of the library to these ---- */
-
-void *__real_malloc(size_t size);
-void *__real_realloc(void *block, size_t size);
-
-static long requests_left = -1; /* or how many requests still succeed */
-
-static bool refuses(void)
-{
-    if (requests_left < 0)
-        return false;
-    if (requests_left == 0)
-        return true;
-    requests_left--;
-    return false;
-}
-
-void *__wrap_malloc(size_t size) { return refuses() ? NULL : __real_malloc(size); }
-
-void *__wrap_realloc(void *block, size_t size)
-{
-    return refuses() ? NULL : __real_realloc(block, size);
-}
-
-/* ---- what the tests share ---- */
-
-static long failures;
-
-static void expect(bool holds, const char *what, long where)
-{
-    if (holds)
-        return;
-    failures++;
-    if (failures <= 20)
-        fprintf(stderr, "tests: %s (%ld)\n", what, where);
-}
-
-/* Bytes in a block of their own length, so that a read past them is seen. */
-typedef struct {
-    uint8_t *at;
-    size_t length;
-} bytes;
-
-static bytes copy_of(const void *from, size_t length)
-{
-    bytes copy = {__real_malloc(length ? length : 1), length};
-    if (!copy.at)
-        abort();
-    memcpy(copy.at, from, length);
-    return copy;
-}
-
-static bool same(const mezdruk_buffer *buffer, bytes text)
-{
-    return buffer->length == text.length
-        && (text.length == 0 || memcmp(buffer->bytes, text.at, text.length) == 0);
-}
-
-/* ---- worked rows ---- */
-
-/* A call that changes a text, or takes a part of it. */
-typedef mezdruk_status change(const uint8_t *text, size_t length, const uint8_t *argument,
-                              size_t argument_length, const mezdruk_options *options,
-                              mezdruk_buffer *output, mezdruk_fault *fault);
-
-static const struct {
-    const char *name;
-    change *call;
-} CHANGES[] = {
-    {"edit", mezdruk_edit},
-    {"patch", mezdruk_patch},
-    {"merge", mezdruk_merge},
-    {"get", mezdruk_get},
-};
-
-enum { CHANGE_COUNT = sizeof CHANGES / sizeof *CHANGES };
-
-typedef struct {
-    char name[8];
-    change *call;
-    unsigned status, code;
-    long long offset, line, column, item;
-    mezdruk_options options;
-    bytes input, argument, output;
-} row;
-
-static bytes read_hex(FILE *rows)
-{
-    size_t length = 0, room = 64;
-    uint8_t *at = __real_malloc(room);
-    unsigned byte;
-    int c;
-    while ((c = fgetc(rows)) == ' ')
-        ;
-    while (c != ' ' && c != '\n' && c != EOF && c != '.') {
-        int d = fgetc(rows);
-        char pair[3] = {(char)c, (char)d, 0};
-        if (sscanf(pair, "%2x", &byte) != 1)
-            abort();
-        if (length == room)
-            at = __real_realloc(at, room *= 2);
-        at[length++] = (uint8_t)byte;
-        c = fgetc(rows);
-    }
-    bytes read = copy_of(at, length);
-    free(at);
-    return read;
-}
-
-static bool read_row(FILE *rows, row *r)
-{
-    unsigned depth, unique, sort, indent;
-    size_t i;
-    if (fscanf(rows, "%7s %u %u %lld %lld %lld %lld %u %u %u %u", r->name, &r->status, &r->code,
-               &r->offset, &r->line, &r->column, &r->item, &depth, &unique, &sort, &indent) != 11)
-        return false;
-    r->call = NULL;
-    for (i = 0; i < CHANGE_COUNT; i++)
-        if (!strcmp(CHANGES[i].name, r->name))
-            r->call = CHANGES[i].call;
-    if (!r->call)
-        abort();
-    r->options = (mezdruk_options){depth, (uint8_t)unique, (uint8_t)sort, (uint8_t)indent};
-    r->input = read_hex(rows);
-    r->argument = read_hex(rows);
-    r->output = read_hex(rows);
-    return true;
-}
-
-static bool is_fault(const row *r, const mezdruk_fault *fault)
-{
-    if (r->status == MEZDRUK_BAD_ARGUMENT)
-        return true;
-    return fault->code == r->code
-        && fault->offset == (r->offset < 0 ? MEZDRUK_NONE : (size_t)r->offset)
-        && fault->line == (size_t)r->line && fault->column == (size_t)r->column
-        && fault->item == (r->item < 0 ? MEZDRUK_NONE : (size_t)r->item);
-}
-
-/* A text is checked and parsed as it is read before it is changed. */
-static void try_input(const row *r, long number)
-{
-    mezdruk_document document = MEZDRUK_DOCUMENT_INIT;
-    mezdruk_buffer printed = MEZDRUK_BUFFER_INIT;
-    mezdruk_fault fault = {0, 0, 0, 0, 0};
-    mezdruk_status status = mezdruk_check(r->input.at, r->input.length, &r->options, &fault);
-    if (r->status <= MEZDRUK_BAD_TEXT) {
-        expect(status == r->status, "the status of check", number);
-        expect(status == MEZDRUK_OK || is_fault(r, &fault), "the fault of check", number);
-    }
-    expect(mezdruk_parse(r->input.at, r->input.length, &r->options, &document, &fault) == status,
-           "the status of parse", number);
-    if (status == MEZDRUK_OK && r->status == MEZDRUK_OK && r->call == mezdruk_edit
-        && r->argument.length == 2) {
-        status = mezdruk_print(&document, document.root, &r->options, &printed, &fault);
-        expect(status == MEZDRUK_OK && same(&printed, r->output), "the output of print", number);
-    }
-    mezdruk_free(&printed);
-    mezdruk_free_document(&document);
-}
-
-static void try_row(const row *r, long number)
-{
-    mezdruk_buffer output = MEZDRUK_BUFFER_INIT;
-    mezdruk_fault fault = {0, 0, 0, 0, 0};
-    mezdruk_status status = r->call(r->input.at, r->input.length, r->argument.at,
-                                    r->argument.length, &r->options, &output, &fault);
-    expect(status == r->status, r->name, number);
-    if (status == MEZDRUK_OK)
-        expect(same(&output, r->output), "the output of a change", number);
-    else
-        expect(output.length == 0 && is_fault(r, &fault), "the fault of a change", number);
-    try_input(r, number);
-    mezdruk_free(&output);
-}
-
-static long try_rows(const char *path)
-{
-    FILE *rows = fopen(path, "r");
-    row r;
-    long number = 0;
-    if (!rows) {
-        perror(path);
-        exit(2);
-    }
-    while (read_row(rows, &r)) {
-        try_row(&r, ++number);
-        free(r.input.at);
-        free(r.argument.at);
-        free(r.output.at);
-    }
-    fclose(rows);
-    return number;
-}
+#include "tests.h"
 
 /* ---- all calls on a text ---- */
 
@@ -211,6 +12,9 @@ static const char PATCH[] =
 static const char MERGE[] =
     "{\"a\":{\"z\":null,\"q\":[\"\\ud83d\\ude04\"]},\"b\":null}";
 static const char POINTER[] = "/a/0";
+
+static const char COLUMNS[] = "[[[\"a\",0],\"json\"],[[\"b\"],\"text\"],[[],\"int\"]]";
+static const char ALL[] = "[]";
 
 static const char *const ARGUMENTS[] = {EDITS, PATCH, MERGE, POINTER};
 
@@ -341,6 +145,27 @@ static void try_changes(bytes text, bytes argument, long where)
                                           options[k], &output, &fault), &output, where);
 }
 
+/* Filters a text by columns and a path. There are errors exactly if a line is bad. */
+static mezdruk_status try_lines(bytes text, bytes columns, bytes has, long where)
+{
+    mezdruk_buffer output = MEZDRUK_BUFFER_INIT, errors = MEZDRUK_BUFFER_INIT;
+    mezdruk_fault fault = {0, 0, 0, 0, 0};
+    mezdruk_status status = mezdruk_lines(text.at, text.length, columns.at, columns.length, has.at,
+                                          has.length, &output, &errors, &fault);
+    expect(status == MEZDRUK_OK || status == MEZDRUK_BAD_ARGUMENT || status == MEZDRUK_NO_MEMORY,
+           "the status of lines", where);
+    if (status == MEZDRUK_OK) {
+        expect(!output.length || output.bytes[output.length - 1] == '\n', "a row without an end",
+               where);
+        expect(!errors.length || errors.bytes[errors.length - 1] == '\n', "an error without an end",
+               where);
+    } else
+        expect(!output.length && !errors.length && fault.code, "what failed lines leave", where);
+    mezdruk_free(&output);
+    mezdruk_free(&errors);
+    return status;
+}
+
 static void try_text(const void *from, size_t length, long where)
 {
     bytes text = copy_of(from, length);
@@ -359,6 +184,12 @@ static void try_text(const void *from, size_t length, long where)
     try_changes(text, text, where);
     if (status != MEZDRUK_NO_MEMORY)
         read_document(text, status, where);
+    bytes columns = copy_of(COLUMNS, strlen(COLUMNS)), all = copy_of(ALL, strlen(ALL));
+    try_lines(text, columns, all, where);
+    try_lines(columns, text, all, where);
+    try_lines(columns, columns, text, where);
+    free(columns.at);
+    free(all.at);
     free(text.at);
 }
 
@@ -433,6 +264,26 @@ static long try_refused(change *call, bytes text, bytes argument, long where)
     return requests;
 }
 
+/* Lines that are good and bad, with each request refused in turn. */
+static long refuse_lines(void)
+{
+    static const char LINES[] = "{\"a\": [1], \"b\": \"c\"}\n[\nx\n{\"a\": [{}]}";
+    bytes text = copy_of(LINES, strlen(LINES)), columns = copy_of(COLUMNS, strlen(COLUMNS));
+    bytes all = copy_of(ALL, strlen(ALL));
+    mezdruk_status status = MEZDRUK_NO_MEMORY;
+    long requests;
+    for (requests = 0; status == MEZDRUK_NO_MEMORY && requests < 1000; requests++) {
+        requests_left = requests;
+        status = try_lines(text, columns, all, requests);
+        requests_left = -1;
+    }
+    expect(status == MEZDRUK_OK && requests > 10, "lines with all memory", requests);
+    free(text.at);
+    free(columns.at);
+    free(all.at);
+    return requests;
+}
+
 static long try_refusals(void)
 {
     bytes text = copy_of(TEXTS[0], strlen(TEXTS[0]));
@@ -449,6 +300,7 @@ static long try_refusals(void)
         read_document(text, MEZDRUK_OK, requests);
         requests_left = -1;
     }
+    count += refuse_lines();
     free(text.at);
     return count;
 }
@@ -533,6 +385,7 @@ static void try_codes(void)
         {MEZDRUK_CODE_BAD_PATCH, "BadPatch"},
         {MEZDRUK_CODE_TEST_FAILED, "TestFailed"},
         {MEZDRUK_CODE_BAD_OPTIONS, "BadOptions"},
+        {MEZDRUK_CODE_NO_MERGE_PATCH, "NoMergePatch"},
     };
     mezdruk_slice name = MEZDRUK_SLICE_INIT;
     size_t i, named = 0;

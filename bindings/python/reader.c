@@ -9,9 +9,6 @@
 /* A name that was read lately, so that it is not made again. */
 enum { RECENT_NAMES = 128, RECENT_BYTES = 32 };
 
-/* The first length of the block to which texts are copied. */
-enum { FIRST_BYTES = 64 };
-
 typedef struct {
     PyObject *name; /* or NULL */
     size_t length;
@@ -26,8 +23,6 @@ typedef struct {
     PyObject *parse_float; /* NULL for float */
     PyObject *object_hook; /* NULL for none */
     PyObject *names;       /* each name that was made: equal names share one object */
-    char *bytes;           /* a copied text, with a zero after it */
-    size_t room;           /* of `bytes`, the zero not counted */
     recent_name recent[RECENT_NAMES];
 } reader;
 
@@ -39,26 +34,14 @@ static PyObject *no_node(void)
 
 /* ---- texts ---- */
 
-/* Copies the text of a node to `bytes`. */
-static bool copy_text(reader *r, uint32_t node, size_t *length)
+/* Returns the text of a node where the document has it, with no zero after it. */
+static const char *lend(reader *r, uint32_t node, size_t *length)
 {
-    for (;;) {
-        if (!mezdruk_text(&r->document, node, (uint8_t *)r->bytes, r->room, length)) {
-            no_node();
-            return false;
-        }
-        if (*length <= r->room)
-            break;
-        char *larger = PyMem_Realloc(r->bytes, *length + 1);
-        if (!larger) {
-            PyErr_NoMemory();
-            return false;
-        }
-        r->bytes = larger;
-        r->room = *length;
-    }
-    r->bytes[*length] = 0;
-    return true;
+    const uint8_t *bytes;
+    if (mezdruk_lend(&r->document, node, &bytes, length))
+        return (const char *)bytes;
+    no_node();
+    return NULL;
 }
 
 static uint64_t word_at(const char *bytes)
@@ -91,33 +74,26 @@ static bool is_ascii(const char *bytes, size_t length)
     return !(all & 0x8080808080808080u);
 }
 
-/* Copies a string into the object that it becomes if it is ASCII, as most are. */
-static PyObject *make_string(reader *r, uint32_t node, size_t length)
+/* Returns the object of a string: a copy of its bytes if it is ASCII, as most are. */
+static PyObject *make_string(reader *r, uint32_t node)
 {
-    PyObject *made, *decoded;
-    char *bytes;
-    size_t copied;
-    if (length < 2)
-        return copy_text(r, node, &copied) ? PyUnicode_FromStringAndSize(r->bytes, copied) : NULL;
-    made = PyUnicode_New((Py_ssize_t)length, 127);
-    if (!made)
+    PyObject *made;
+    size_t length;
+    const char *bytes = lend(r, node, &length);
+    if (!bytes)
         return NULL;
-    bytes = (char *)PyUnicode_1BYTE_DATA(made);
-    if (!mezdruk_text(&r->document, node, (uint8_t *)bytes, length, &copied) || copied != length) {
-        Py_DECREF(made);
-        return no_node();
-    }
-    if (is_ascii(bytes, length))
-        return made;
-    decoded = PyUnicode_DecodeUTF8(bytes, (Py_ssize_t)length, NULL);
-    Py_DECREF(made);
-    return decoded;
+    if (length < 2 || !is_ascii(bytes, length))
+        return PyUnicode_DecodeUTF8(bytes, (Py_ssize_t)length, NULL);
+    made = PyUnicode_New((Py_ssize_t)length, 127);
+    if (made)
+        memcpy(PyUnicode_1BYTE_DATA(made), bytes, length);
+    return made;
 }
 
 /* Returns the object of a name, and keeps it for equal names. */
-static PyObject *shared_name(reader *r, size_t length)
+static PyObject *shared_name(reader *r, const char *bytes, size_t length)
 {
-    PyObject *made = PyUnicode_DecodeUTF8(r->bytes, (Py_ssize_t)length, NULL), *shared;
+    PyObject *made = PyUnicode_DecodeUTF8(bytes, (Py_ssize_t)length, NULL), *shared;
     if (!made)
         return NULL;
     if (!r->names && !(r->names = PyDict_New())) {
@@ -137,34 +113,35 @@ static PyObject *next_name(reader *r)
     recent_name *recent;
     uint32_t hash = 2166136261u;
     size_t length, i;
-    if (!copy_text(r, r->next++, &length))
+    const char *bytes = lend(r, r->next++, &length);
+    if (!bytes)
         return NULL;
     if (length > RECENT_BYTES)
-        return shared_name(r, length);
+        return shared_name(r, bytes, length);
     for (i = 0; i < length; i++)
-        hash = (hash ^ (uint8_t)r->bytes[i]) * 16777619u;
+        hash = (hash ^ (uint8_t)bytes[i]) * 16777619u;
     recent = &r->recent[(hash >> 8) % RECENT_NAMES];
-    if (recent->name && recent->length == length && !memcmp(recent->bytes, r->bytes, length)) {
+    if (recent->name && recent->length == length && !memcmp(recent->bytes, bytes, length)) {
         Py_INCREF(recent->name);
         return recent->name;
     }
-    name = shared_name(r, length);
+    name = shared_name(r, bytes, length);
     if (!name)
         return NULL;
     Py_INCREF(name);
     Py_XDECREF(recent->name);
     recent->name = name;
     recent->length = length;
-    memcpy(recent->bytes, r->bytes, length);
+    memcpy(recent->bytes, bytes, length);
     return name;
 }
 
 /* ---- numbers ---- */
 
 /* Calls a function of the caller on a literal. */
-static PyObject *parse_by(PyObject *function, const char *literal)
+static PyObject *parse_by(PyObject *function, const char *literal, size_t length)
 {
-    PyObject *made, *text = PyUnicode_FromString(literal);
+    PyObject *made, *text = PyUnicode_FromStringAndSize(literal, (Py_ssize_t)length);
     if (!text)
         return NULL;
     made = PyObject_CallFunctionObjArgs(function, text, NULL);
@@ -172,38 +149,45 @@ static PyObject *parse_by(PyObject *function, const char *literal)
     return made;
 }
 
+static bool is_integer(const char *literal, size_t length)
+{
+    return !memchr(literal, '.', length) && !memchr(literal, 'e', length)
+        && !memchr(literal, 'E', length);
+}
+
 /* Returns the number of a literal that is no integer of 64 bits. */
 static PyObject *make_literal(reader *r, uint32_t node)
 {
     size_t length;
     double value;
-    if (!copy_text(r, node, &length))
+    const char *literal = lend(r, node, &length);
+    if (!literal)
         return NULL;
-    if (!strpbrk(r->bytes, ".eE")) {
-        if (r->parse_int)
-            return parse_by(r->parse_int, r->bytes);
-        return PyLong_FromString(r->bytes, NULL, 10);
+    if (is_integer(literal, length)) {
+        PyObject *integer = r->parse_int ? r->parse_int : (PyObject *)&PyLong_Type;
+        return parse_by(integer, literal, length);
     }
     if (r->parse_float)
-        return parse_by(r->parse_float, r->bytes);
+        return parse_by(r->parse_float, literal, length);
     if (!mezdruk_real(&r->document, node, &value))
-        value = *r->bytes == '-' ? -Py_HUGE_VAL : Py_HUGE_VAL;
+        value = *literal == '-' ? -Py_HUGE_VAL : Py_HUGE_VAL;
     return PyFloat_FromDouble(value);
 }
 
 static PyObject *make_number(reader *r, uint32_t node, const mezdruk_node *shown)
 {
     char literal[24];
+    int length;
     if (shown->form == MEZDRUK_LITERAL)
         return make_literal(r, node);
     if (!r->parse_int)
         return shown->form == MEZDRUK_NATURAL ? PyLong_FromUnsignedLongLong(shown->natural)
                                               : PyLong_FromLongLong(shown->negative);
     if (shown->form == MEZDRUK_NATURAL)
-        PyOS_snprintf(literal, sizeof literal, "%llu", (unsigned long long)shown->natural);
+        length = PyOS_snprintf(literal, sizeof literal, "%llu", (unsigned long long)shown->natural);
     else
-        PyOS_snprintf(literal, sizeof literal, "%lld", (long long)shown->negative);
-    return parse_by(r->parse_int, literal);
+        length = PyOS_snprintf(literal, sizeof literal, "%lld", (long long)shown->negative);
+    return parse_by(r->parse_int, literal, (size_t)length);
 }
 
 /* ---- values ---- */
@@ -253,7 +237,7 @@ static PyObject *next_value(reader *r)
         return no_node();
     switch (shown.kind) {
     case MEZDRUK_STRING:
-        return make_string(r, node, shown.length);
+        return make_string(r, node);
     case MEZDRUK_NUMBER:
         return make_number(r, node, &shown);
     case MEZDRUK_OBJECT:
@@ -300,7 +284,6 @@ static void clear(reader *r)
     for (i = 0; i < RECENT_NAMES; i++)
         Py_XDECREF(r->recent[i].name);
     Py_XDECREF(r->names);
-    PyMem_Free(r->bytes);
     mezdruk_free_document(&r->document);
     PyMem_Free(r);
 }
@@ -324,12 +307,6 @@ static PyObject *read_text(PyObject *module, PyObject *const *arguments, Py_ssiz
     r = PyMem_Calloc(1, sizeof *r);
     if (!r)
         return PyErr_NoMemory();
-    r->bytes = PyMem_Malloc(FIRST_BYTES);
-    r->room = FIRST_BYTES - 1;
-    if (!r->bytes) {
-        clear(r);
-        return PyErr_NoMemory();
-    }
     r->parse_int = arguments[3] == Py_None ? NULL : arguments[3];
     r->parse_float = arguments[4] == Py_None ? NULL : arguments[4];
     r->object_hook = arguments[5] == Py_None ? NULL : arguments[5];

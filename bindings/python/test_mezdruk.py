@@ -318,6 +318,68 @@ def test_merge_patch_is_that_of_the_rfc():
         assert json.loads(made) == merged(target, patch)
 
 
+def test_diff_leads_to_the_target():
+    source = random.Random(11)
+    for _ in range(300):
+        text, target = json.dumps(random_value(source)), json.dumps(random_value(source))
+        made = mezdruk.diff(text, target)
+        assert mezdruk.diff(mezdruk.patch(text, made), target) == "[]"
+        by_jsonpatch = jsonpatch.apply_patch(json.loads(text), json.loads(made))
+        assert by_jsonpatch == json.loads(target)
+    assert mezdruk.diff(b'{"a": 1}', {"a": 1, "b": [None]}, indent=0) == (
+        b'[\n{\n"op": "add",\n"path": "/b",\n"value": [\nnull\n]\n}\n]'
+    )
+
+
+def test_merge_diff_leads_to_the_target():
+    source, made = random.Random(12), 0
+    for _ in range(300):
+        text, target = json.dumps(random_value(source)), json.dumps(random_value(source))
+        try:
+            patch = mezdruk.merge_diff(text, target)
+        except mezdruk.ApplyError as error:
+            assert error.code == "NoMergePatch" and "null" in target
+            continue
+        made += 1
+        assert mezdruk.diff(mezdruk.merge_patch(text, patch), target) == "[]"
+    assert made > 100
+    assert mezdruk.merge_diff('{"a": 1, "b": 2}', {"b": 3}) == '{"a":null,"b":3}'
+
+
+def test_texts_and_targets_that_are_no_json():
+    for call in (mezdruk.diff, mezdruk.merge_diff):
+        with pytest.raises(mezdruk.TextError) as caught:
+            call("[1, x]", "[]")
+        assert (caught.value.code, caught.value.offset) == ("InvalidJsonValue", 4)
+        with pytest.raises(mezdruk.ArgumentError) as caught:
+            call("[]", "[\n01]")
+        assert (caught.value.code, caught.value.lineno, caught.value.colno) == ("InvalidNumber", 2, 2)
+
+
+def test_lines():
+    text = '{"a": 1, "b": "é"}\n \n[\n{"a": 1.50}\n{"b": "x"}'
+    columns = [[["a"], "int"], [["b"], "text"], [["a"], "json"]]
+    rows, errors = mezdruk.lines(text, columns)
+    assert rows == '1\t"é"\t1\n-\t-\t1.50\n-\t"x"\t-\n'
+    assert errors == "3: EofWhileParsing at offset 1, line 1 column 2\n"
+    assert mezdruk.lines(text.encode(), json.dumps(columns), has=["b"]) == (
+        '1\t"é"\t1\n-\t"x"\t-\n'.encode(), errors.encode()
+    )
+    assert mezdruk.lines("", columns) == ("", "")
+    many = "".join(json.dumps({"a": number}) + "\n" for number in range(10_000))
+    assert mezdruk.lines(many, [[["a"], "int"]])[0].split() == [str(i) for i in range(10_000)]
+
+
+def test_lines_of_columns_that_are_none():
+    for columns, has in (([], []), ([[[], "texts"]], []), ("[", []), ([[[], "text"]], [-1])):
+        with pytest.raises(mezdruk.ArgumentError) as caught:
+            mezdruk.lines("1", columns, has=has)
+        assert caught.value.code == "BadOptions"
+    with pytest.raises(mezdruk.ArgumentError) as caught:
+        mezdruk.lines("1", b"\xff")
+    assert (caught.value.code, caught.value.offset) == ("InvalidUTF8", 0)
+
+
 def test_get():
     text = '{"a/b": [10, {"m~n": 1.50}]}'
     assert mezdruk.get(text, "/a~1b/1/m~0n") == "1.50"

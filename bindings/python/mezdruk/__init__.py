@@ -12,7 +12,9 @@ mezdruk.TextError: InvalidJsonValue at offset 4, line 1 column 5
 
 from __future__ import annotations
 
-from mezdruk._calls import check, edit, get, is_valid, merge_patch, patch
+from mezdruk._calls import (
+    check, diff, edit, get, is_valid, lines, merge_diff, merge_patch, patch,
+)
 from mezdruk._document import Document, View
 from mezdruk._dumps import dump, dumps
 from mezdruk._errors import ApplyError, ArgumentError, Error, TextError
@@ -28,13 +30,16 @@ __all__ = [
     "TextError",
     "View",
     "check",
+    "diff",
     "dump",
     "dumps",
     "edit",
     "get",
     "is_valid",
+    "lines",
     "load",
     "loads",
+    "merge_diff",
     "merge_patch",
     "patch",
 ]

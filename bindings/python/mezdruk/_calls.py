@@ -2,7 +2,7 @@
 
 from __future__ import annotations
 
-from typing import Any, Sequence, TypeVar, Union
+from typing import Any, Sequence, Tuple, TypeVar, Union
 
 from mezdruk._encode import encode
 from mezdruk._errors import Error, fail
@@ -69,8 +69,13 @@ def _changed(call: Any, text: Text, argument: bytes, asked: Any) -> Text:
     )
     if status:
         fail(status, fault, source, argument)
+    return _taken(output, text)
+
+
+def _taken(output: Any, text: Text) -> Text:
+    """Returns the bytes of a buffer, as the text is, and frees it."""
     try:
-        result = bytes(ffi.buffer(output.bytes, output.length))
+        result = bytes(ffi.buffer(output.bytes, output.length)) if output.length else b""
     finally:
         lib.mezdruk_free(output)
     return result.decode() if isinstance(text, str) else result
@@ -146,6 +151,67 @@ def merge_patch(
     """
     asked = options(depth, unique_keys, sort_keys, indent)
     return _changed(lib.mezdruk_merge, text, _json(patch), asked)
+
+
+def diff(
+    text: Text,
+    target: Any,
+    *,
+    indent: Indent = None,
+    sort_keys: bool = False,
+    depth: int = 254,
+    unique_keys: bool = False,
+) -> Text:
+    """Returns a JSON Patch (RFC 6902) that leads from the text to the target.
+
+    `patch` makes of the text what is the same as the target, and the patch is `[]` exactly if the
+    two are the same. A target that is a `str` or `bytes` is taken as a JSON text.
+    """
+    asked = options(depth, unique_keys, sort_keys, indent)
+    return _changed(lib.mezdruk_diff, text, _json(target), asked)
+
+
+def merge_diff(
+    text: Text,
+    target: Any,
+    *,
+    indent: Indent = None,
+    sort_keys: bool = False,
+    depth: int = 254,
+    unique_keys: bool = False,
+) -> Text:
+    """Returns a JSON Merge Patch (RFC 7396) that leads from the text to the target.
+
+    There is none, and ApplyError is raised, if a member of the target that the text has not is
+    null, or if a name repeats in one of two objects that differ.
+    """
+    asked = options(depth, unique_keys, sort_keys, indent)
+    return _changed(lib.mezdruk_merge_diff, text, _json(target), asked)
+
+
+def lines(
+    text: Text,
+    columns: Union[str, bytes, Sequence[Any]],
+    *,
+    has: Union[str, bytes, Sequence[Union[str, int]]] = (),
+) -> Tuple[Text, Text]:
+    """Returns a row of cells for each line of the text, and the errors of those that are bad.
+
+    A column is `[path, kind]`; a kind is "text", "int", "bool" or "json". The cells of a row have
+    tabs between them, and are `-` where there is no value of the kind. A line without a value at
+    the path `has` has no row, and nor has one that is not a JSON text of at most 254 levels: its
+    number and its error are among the errors, which are empty if no line is bad.
+    """
+    source, asked, path = encoded(text), _json(columns), _json(has)
+    rows, errors = ffi.new("mezdruk_buffer *"), ffi.new("mezdruk_buffer *")
+    fault = ffi.new("mezdruk_fault *")
+    status = lib.mezdruk_lines(
+        ffi.from_buffer(source), len(source), ffi.from_buffer(asked), len(asked),
+        ffi.from_buffer(path), len(path), rows, errors, fault,
+    )
+    if status:
+        fail(status, fault, source, asked)
+    return _taken(rows, text), _taken(errors, text)
 
 
 def get(

@@ -32,6 +32,7 @@ _NAMES = {
     lib.MEZDRUK_CODE_BAD_PATCH: "BadPatch",
     lib.MEZDRUK_CODE_TEST_FAILED: "TestFailed",
     lib.MEZDRUK_CODE_BAD_OPTIONS: "BadOptions",
+    lib.MEZDRUK_CODE_NO_MERGE_PATCH: "NoMergePatch",
 }
 
 _NONE = 2**64 - 1
@@ -81,11 +82,11 @@ class TextError(Error):
 
 
 class ArgumentError(Error):
-    """The options, the edits, the patch or the pointer are not valid."""
+    """The options, the edits, the patch, the target or the pointer are not valid."""
 
 
 class ApplyError(Error):
-    """An edit, a patch or a pointer does not apply to the text."""
+    """An edit, a patch or a pointer does not apply, or there is no merge patch to the target."""
 
 
 _CLASSES = {

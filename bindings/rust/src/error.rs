@@ -47,9 +47,10 @@ struct Position {
 pub enum ErrorKind {
     /// The text is not valid JSON, or breaks a rule that the options ask for.
     Text,
-    /// The options are not valid, or the edits or the patch cannot be read.
+    /// The options are not valid, or the edits, the patch or the target cannot be read.
     Argument,
-    /// An edit, a patch or a pointer does not apply to the text.
+    /// An edit, a patch or a pointer does not apply to the text, or no merge patch leads to the
+    /// target.
     Apply,
     /// Memory ran out.
     OutOfMemory,
@@ -224,4 +225,5 @@ codes! {
     BadPatch = 30, "the patch or the operation is not valid";
     TestFailed = 31, "`test` found another value";
     BadOptions = 32, "the options are not valid";
+    NoMergePatch = 33, "no merge patch leads to the target";
 }

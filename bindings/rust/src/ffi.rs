@@ -11,15 +11,6 @@ use std::ptr::null;
 use std::slice::from_raw_parts;
 use std::str::from_utf8_unchecked;
 
-/// A call that makes a text of a text and an argument.
-#[derive(Clone, Copy)]
-pub(crate) struct Change(ChangeCall);
-
-pub(crate) const EDIT: Change = Change(mezdruk_edit);
-pub(crate) const PATCH: Change = Change(mezdruk_patch);
-pub(crate) const MERGE: Change = Change(mezdruk_merge);
-pub(crate) const GET: Change = Change(mezdruk_get);
-
 pub(crate) fn check(text: &[u8], options: &Options) -> Result<(), Failure> {
     // SAFETY: the pointers are those of a slice and of references.
     called(|fault| unsafe { mezdruk_check(text.as_ptr(), text.len(), options, fault) })
@@ -48,10 +39,27 @@ impl Change {
     }
 }
 
+/// Returns the rows and the errors of the lines of a text.
+pub(crate) fn lines(text: &[u8], columns: &[u8], has: &[u8]) -> Result<[String; 2], Failure> {
+    let (mut rows, mut errors) = (Buffer::EMPTY, Buffer::EMPTY);
+    let (text, length) = (text.as_ptr(), text.len());
+    let (columns, count) = (columns.as_ptr(), columns.len());
+    let (has, steps) = (has.as_ptr(), has.len());
+    called(|fault| {
+        let (rows, errors) = (&mut rows, &mut errors);
+        // SAFETY: the pointers are those of slices and of references; the buffers are empty.
+        unsafe { mezdruk_lines(text, length, columns, count, has, steps, rows, errors, fault) }
+    })?;
+    Ok([rows.to_text(), errors.to_text()])
+}
+
 impl Buffer {
     /// Returns a copy of the text that a call that succeeded left.
     fn to_text(&self) -> String {
-        // SAFETY: the buffer has a JSON text, which is UTF-8 and has a byte at least.
+        if self.bytes.is_null() {
+            return String::new();
+        }
+        // SAFETY: what calls write is UTF-8: JSON texts, and rows and errors of lines.
         unsafe { from_utf8_unchecked(from_raw_parts(self.bytes, self.length)) }.to_owned()
     }
 }

@@ -32,6 +32,7 @@ mod error;
 mod excerpt;
 mod ffi;
 mod index;
+mod lines;
 mod node;
 mod options;
 mod raw;
@@ -40,6 +41,7 @@ pub use children::{Elements, Members};
 pub use document::Document;
 pub use error::{Error, ErrorCode, ErrorKind};
 pub use index::Index;
+pub use lines::{lines, Lines};
 pub use node::{Kind, Node};
 pub use options::{Indent, Options};
 
@@ -105,6 +107,39 @@ pub fn patch(text: impl AsRef<[u8]>, patch: impl AsRef<[u8]>) -> Result<String, 
 /// ```
 pub fn merge_patch(text: impl AsRef<[u8]>, patch: impl AsRef<[u8]>) -> Result<String, Error> {
     Options::new().merge_patch(text, patch)
+}
+
+/// Returns a JSON Patch (RFC 6902) that leads from a text to another: [`patch`](fn@patch) makes of
+/// the first what is the same as the second. It is `[]` exactly if the two are the same.
+///
+/// Fails with an error of the kind [`ErrorKind::Text`] if the first is not valid, and of the kind
+/// [`ErrorKind::Argument`] if the second is not.
+///
+/// ```
+/// let (text, target) = (r#"{"a": [1, 2], "b": 3}"#, r#"{"a": [1, 2.50], "c": null}"#);
+/// let patch = mezdruk::diff(text, target)?;
+/// assert_eq!(mezdruk::diff(mezdruk::patch(text, patch)?, target)?, "[]");
+/// # Ok::<(), mezdruk::Error>(())
+/// ```
+pub fn diff(text: impl AsRef<[u8]>, target: impl AsRef<[u8]>) -> Result<String, Error> {
+    Options::new().diff(text, target)
+}
+
+/// Returns a JSON Merge Patch (RFC 7396) that leads from a text to another.
+///
+/// Fails as [`diff`] does, and with `NoMergePatch` if a member of the second that the first has not
+/// is null, or if a name repeats in one of two objects that differ.
+///
+/// ```
+/// use mezdruk::ErrorCode;
+///
+/// assert_eq!(mezdruk::merge_diff(r#"{"a": 1, "b": 2}"#, r#"{"a": 3}"#)?, r#"{"b":null,"a":3}"#);
+/// let error = mezdruk::merge_diff("{}", r#"{"a": null}"#).unwrap_err();
+/// assert_eq!(error.code(), ErrorCode::NoMergePatch);
+/// # Ok::<(), mezdruk::Error>(())
+/// ```
+pub fn merge_diff(text: impl AsRef<[u8]>, target: impl AsRef<[u8]>) -> Result<String, Error> {
+    Options::new().merge_diff(text, target)
 }
 
 /// Returns the text of the value that a JSON Pointer (RFC 6901) references.

@@ -2,9 +2,9 @@
 
 use crate::document::Document;
 use crate::error::{Error, Inputs};
-use crate::ffi::{self, Change, Parsed};
+use crate::ffi::{self, Parsed};
 use crate::node::Node;
-use crate::raw;
+use crate::raw::{self, Change};
 
 /// How a text is read, and how a result is laid out.
 ///
@@ -91,12 +91,12 @@ impl Options {
 
     /// Applies edits, as [`edit`](crate::edit) does, by these options.
     pub fn edit(&self, text: impl AsRef<[u8]>, edits: impl AsRef<[u8]>) -> Result<String, Error> {
-        self.changed(ffi::EDIT, text.as_ref(), edits.as_ref())
+        self.changed(raw::EDIT, text.as_ref(), edits.as_ref())
     }
 
     /// Applies a JSON Patch, as [`patch`](crate::patch) does, by these options.
     pub fn patch(&self, text: impl AsRef<[u8]>, patch: impl AsRef<[u8]>) -> Result<String, Error> {
-        self.changed(ffi::PATCH, text.as_ref(), patch.as_ref())
+        self.changed(raw::PATCH, text.as_ref(), patch.as_ref())
     }
 
     /// Applies a JSON Merge Patch, as [`merge_patch`](crate::merge_patch) does, by these options.
@@ -105,12 +105,27 @@ impl Options {
         text: impl AsRef<[u8]>,
         patch: impl AsRef<[u8]>,
     ) -> Result<String, Error> {
-        self.changed(ffi::MERGE, text.as_ref(), patch.as_ref())
+        self.changed(raw::MERGE, text.as_ref(), patch.as_ref())
+    }
+
+    /// Returns the patch from a text to another, as [`diff`](crate::diff) does, by these options.
+    pub fn diff(&self, text: impl AsRef<[u8]>, target: impl AsRef<[u8]>) -> Result<String, Error> {
+        self.changed(raw::DIFF, text.as_ref(), target.as_ref())
+    }
+
+    /// Returns the merge patch from a text to another, as [`merge_diff`](crate::merge_diff) does, by
+    /// these options.
+    pub fn merge_diff(
+        &self,
+        text: impl AsRef<[u8]>,
+        target: impl AsRef<[u8]>,
+    ) -> Result<String, Error> {
+        self.changed(raw::MERGE_DIFF, text.as_ref(), target.as_ref())
     }
 
     /// Returns the text of a value, as [`get`](crate::get) does, by these options.
     pub fn get(&self, text: impl AsRef<[u8]>, pointer: &str) -> Result<String, Error> {
-        self.changed(ffi::GET, text.as_ref(), pointer.as_bytes())
+        self.changed(raw::GET, text.as_ref(), pointer.as_bytes())
     }
 
     /// Parses a text, as [`Document::parse`] does, by these options.

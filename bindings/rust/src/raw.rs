@@ -113,6 +113,17 @@ pub(crate) type ChangeCall = unsafe extern "C" fn(text: *const u8, length: usize
     argument: *const u8, argument_length: usize, options: &Options, output: &mut Buffer,
     fault: &mut Fault) -> u8;
 
+/// A call that makes a text of a text and an argument, for the module that may call it.
+#[derive(Clone, Copy)]
+pub(crate) struct Change(pub(crate) ChangeCall);
+
+pub(crate) const EDIT: Change = Change(mezdruk_edit);
+pub(crate) const PATCH: Change = Change(mezdruk_patch);
+pub(crate) const MERGE: Change = Change(mezdruk_merge);
+pub(crate) const DIFF: Change = Change(mezdruk_diff);
+pub(crate) const MERGE_DIFF: Change = Change(mezdruk_merge_diff);
+pub(crate) const GET: Change = Change(mezdruk_get);
+
 #[rustfmt::skip]
 extern "C" {
     pub(crate) fn mezdruk_free(buffer: &mut Buffer);
@@ -127,6 +138,13 @@ extern "C" {
         patch_length: usize, options: &Options, output: &mut Buffer, fault: &mut Fault) -> u8;
     pub(crate) fn mezdruk_get(text: *const u8, length: usize, pointer: *const u8,
         pointer_length: usize, options: &Options, output: &mut Buffer, fault: &mut Fault) -> u8;
+    pub(crate) fn mezdruk_diff(text: *const u8, length: usize, target: *const u8,
+        target_length: usize, options: &Options, output: &mut Buffer, fault: &mut Fault) -> u8;
+    pub(crate) fn mezdruk_merge_diff(text: *const u8, length: usize, target: *const u8,
+        target_length: usize, options: &Options, output: &mut Buffer, fault: &mut Fault) -> u8;
+    pub(crate) fn mezdruk_lines(text: *const u8, length: usize, columns: *const u8,
+        columns_length: usize, has: *const u8, has_length: usize, output: &mut Buffer,
+        errors: &mut Buffer, fault: &mut Fault) -> u8;
     pub(crate) fn mezdruk_parse(text: *const u8, length: usize, options: &Options,
         document: *mut Document, fault: &mut Fault) -> u8;
     pub(crate) fn mezdruk_print(document: *mut Document, node: u32, options: &Options,

@@ -68,6 +68,38 @@ fn merge_patches_of_the_rfc_apply() {
 }
 
 #[test]
+fn a_patch_between_texts_leads_from_one_to_the_other() {
+    for (text, _, target) in PATCHES.iter().chain(MERGES) {
+        let patch = mezdruk::diff(text, target).unwrap();
+        assert_eq!(mezdruk::diff(mezdruk::patch(text, patch).unwrap(), target).unwrap(), "[]");
+    }
+    for (text, _, target) in MERGES {
+        if let Ok(patch) = mezdruk::merge_diff(text, target) {
+            let made = mezdruk::merge_patch(text, patch).unwrap();
+            assert_eq!(mezdruk::diff(made, target).unwrap(), "[]");
+        }
+    }
+    let laid_out = Options::new().indent(Indent::Spaces(1)).sort_keys(true);
+    assert_eq!(
+        laid_out.merge_diff("{}", r#"{"b":1,"a":2}"#).unwrap(),
+        "{\n \"a\": 2,\n \"b\": 1\n}"
+    );
+    assert_eq!(laid_out.diff("1", "1").unwrap(), "[]");
+}
+
+#[test]
+fn each_line_has_a_row_or_an_error() {
+    let text = "{\"a\": 1}\n\n[\n{\"a\": \"x\"}";
+    let lines = mezdruk::lines(text, r#"[[["a"],"int"],[["a"],"text"]]"#, "[]").unwrap();
+    assert_eq!(lines.rows, "1\t-\n-\t\"x\"\n");
+    assert_eq!(lines.errors, "3: EofWhileParsing at offset 1, line 1 column 2\n");
+    let lines = mezdruk::lines("[1]\n{\"b\": 2}\n", r#"[[["b"],"json"]]"#, r#"["b"]"#).unwrap();
+    assert_eq!((lines.rows.as_str(), lines.errors.as_str()), ("2\n", ""));
+    let none = mezdruk::lines("", r#"[[[],"json"]]"#, "[]").unwrap();
+    assert_eq!((none.rows.as_str(), none.errors.as_str()), ("", ""));
+}
+
+#[test]
 fn edits_apply_in_turn() {
     let edits = r#"[["set", ["a"], 2], ["push", ["b"], {}], ["insert", [], "c", null]]"#;
     let text = r#"{"a": 1, "b": [true, 1.50]}"#;

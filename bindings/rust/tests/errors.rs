@@ -69,11 +69,32 @@ fn an_argument_that_cannot_be_read_is_shown() {
         mezdruk::edit(text, "[\n01]").unwrap_err(),
         mezdruk::patch(text, "[\n01]").unwrap_err(),
         mezdruk::merge_patch(text, "[\n01]").unwrap_err(),
+        mezdruk::diff(text, "[\n01]").unwrap_err(),
+        mezdruk::merge_diff(text, "[\n01]").unwrap_err(),
     ] {
         assert_eq!((error.kind(), error.code()), (ErrorKind::Argument, InvalidNumber));
         assert_eq!((error.line(), error.column()), (Some(2), Some(2)));
         assert!(format!("{error:#}").ends_with("\n01]\n ^"), "{error:#}");
     }
+}
+
+#[test]
+fn columns_that_are_none_are_an_argument_that_is_not_valid() {
+    for (columns, has) in [("[]", "[]"), (r#"[[[], "texts"]]"#, "[]"), (r#"[[[], "int"]]"#, "[-1]")]
+    {
+        let error = mezdruk::lines("1", columns, has).unwrap_err();
+        assert_eq!((error.kind(), error.code()), (ErrorKind::Argument, BadOptions));
+    }
+    let error = mezdruk::lines("1", b"\xff", "[]").unwrap_err();
+    assert_eq!((error.kind(), error.code()), (ErrorKind::Argument, InvalidUTF8));
+}
+
+#[test]
+fn a_target_that_no_merge_patch_makes_does_not_apply() {
+    let error = mezdruk::merge_diff("{}", r#"{"a": null}"#).unwrap_err();
+    assert_eq!((error.kind(), error.code()), (ErrorKind::Apply, NoMergePatch));
+    assert_eq!((error.offset(), error.item()), (None, None));
+    assert_eq!(error.to_string(), "no merge patch leads to the target (NoMergePatch)");
 }
 
 #[test]

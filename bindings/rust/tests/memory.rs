@@ -7,7 +7,13 @@ const TEXT: &str = r#"{"a": [1, -0, 1e400, {"b": null}], "b": "\n", "": true}"#;
 /// Makes calls of each kind: those that succeed, and those that fail.
 fn calls(count: usize) {
     let options = Options::new();
-    for _ in 0..count / 10 {
+    for i in 0..count / 12 {
+        if i % 1_000 == 0 {
+            assert!(mezdruk::lines(TEXT, r#"[[["b"], "text"]]"#, "[]").is_ok());
+            assert!(mezdruk::lines(TEXT, "[]", "[]").is_err());
+        }
+        assert!(mezdruk::diff(TEXT, r#"{"a": [1]}"#).is_ok());
+        assert!(mezdruk::merge_diff(TEXT, r#"{"c": null}"#).is_err());
         assert!(mezdruk::check(TEXT).is_ok());
         assert!(mezdruk::check(&TEXT[1..]).is_err());
         assert!(mezdruk::edit(TEXT, r#"[["set", ["a", 0], {"x": [1.50]}]]"#).is_ok());

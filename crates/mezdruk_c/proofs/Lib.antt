@@ -1,5 +1,7 @@
 pub mod AsBox
+pub mod DiffedTexts
 pub mod EditedTexts
+pub mod FilteredLines
 pub mod Indents
 pub mod LentTexts
 pub mod PatchedTexts

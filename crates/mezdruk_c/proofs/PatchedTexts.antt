@@ -19,7 +19,7 @@ use Rattle.json_layout.specs.declared.style.Style.{Style}
 use Rattle.json_io.specs.Errors.{no_memory as no_memory_for_text}
 use Rattle.json_text.specs.Ruled.{usual_rules}
 use Rattle.mezdruk_c.specs.declared.failure.Failure.{Failure}
-use Rattle.mezdruk_c.specs.declared.failure.Failure.TheVariants.{Options as bad_options, Argument, Text, Patch}
+use Rattle.mezdruk_c.specs.declared.failure.Failure.TheVariants.{Options as bad_options, Argument, Text, Patch, NoMergePatch}
 use Rattle.mezdruk_c.specs.declared.options.Options.{Options}
 use Rattle.mezdruk_c.specs.Asked.{rules_of_options, text_by_options}
 use Rattle.mezdruk_c.specs.Checking.{IsArgumentFailure, IsTextFailure}
@@ -47,35 +47,40 @@ few_operations rules b t input = omega (arith, few_elements t, (text_fits false 
 -- ---- texts that are not read
 
 module _ (o : Options) (b p : List ℕ) where
-  pub argument_not_patched : (f : Failure) → IsArgumentFailure p f → PatchCallFails o b p f
+  pub argument_not_patched : (f : Failure) → IsArgumentFailure usual_rules p f → PatchCallFails o b p f
   argument_not_patched (Argument e) h = h
   argument_not_patched bad_options h = absurd h
   argument_not_patched (Text e) h = absurd h
   argument_not_patched (Patch e) h = absurd h
+  argument_not_patched NoMergePatch h = absurd h
 
-  pub argument_not_merged : (f : Failure) → IsArgumentFailure p f → MergeFails o b p f
+  pub argument_not_merged : (f : Failure) → IsArgumentFailure usual_rules p f → MergeFails o b p f
   argument_not_merged (Argument e) h = h
   argument_not_merged bad_options h = absurd h
   argument_not_merged (Text e) h = absurd h
   argument_not_merged (Patch e) h = absurd h
+  argument_not_merged NoMergePatch h = absurd h
 
   pub text_not_patched : (rules : Rules) (f : Failure) → rules ≡ rules_of_options o → IsTextFailure rules b f → PatchCallFails o b p f
   text_not_patched rules (Text e) same h = subst (λ r. IsTextFailure r b (Text e)) same h
   text_not_patched rules bad_options same h = absurd h
   text_not_patched rules (Argument e) same h = absurd h
   text_not_patched rules (Patch e) same h = absurd h
+  text_not_patched rules NoMergePatch same h = absurd h
 
   pub text_not_merged : (rules : Rules) (f : Failure) → rules ≡ rules_of_options o → IsTextFailure rules b f → MergeFails o b p f
   text_not_merged rules (Text e) same h = subst (λ r. IsTextFailure r b (Text e)) same h
   text_not_merged rules bad_options same h = absurd h
   text_not_merged rules (Argument e) same h = absurd h
   text_not_merged rules (Patch e) same h = absurd h
+  text_not_merged rules NoMergePatch same h = absurd h
 
   pub text_not_got : (rules : Rules) (f : Failure) → rules ≡ rules_of_options o → IsTextFailure rules b f → GetFails o b p f
   text_not_got rules (Text e) same h = subst (λ r. IsTextFailure r b (Text e)) same h
   text_not_got rules bad_options same h = absurd h
   text_not_got rules (Argument e) same h = absurd h
   text_not_got rules (Patch e) same h = absurd h
+  text_not_got rules NoMergePatch same h = absurd h
 
   -- memory that runs out for the result
   pub patch_no_memory : (f : Failure) → f ≡ Text no_memory_for_text → PatchCallFails o b p f
@@ -121,6 +126,7 @@ module _ (o : Options) (b p : List ℕ) where
   not_got rules tree (Patch e) same input h = record { tree = tree; input = subst (λ r. IsInput r b tree) same input; why = h }
   not_got rules tree bad_options same input h = absurd h
   not_got rules tree (Argument e) same input h = absurd h
+  not_got rules tree NoMergePatch same input h = absurd h
 
 -- ---- a pointer
 

@@ -9,7 +9,7 @@ use Rattle.json_io.specs.declared.error.ErrorCode.TheVariants.{NoMemory, NotFoun
 use Rattle.json_io.specs.declared.error.Place.{Place}
 use Rattle.json_io.specs.declared.error.Place.TheVariants.{None as nowhere}
 use Rattle.mezdruk_c.specs.declared.failure.Failure.{Failure}
-use Rattle.mezdruk_c.specs.declared.failure.Failure.TheVariants.{Options as bad_options, Argument, Text, Patch}
+use Rattle.mezdruk_c.specs.declared.failure.Failure.TheVariants.{Options as bad_options, Argument, Text, Patch, NoMergePatch}
 use Rattle.mezdruk_c.specs.declared.fault.FaultReport.{FaultReport}
 use Rattle.mezdruk_c.specs.declared.options.Options.{Options}
 use Rattle.mezdruk_c.specs.Asked.{HasRules, rules_of_options}
@@ -41,6 +41,7 @@ status_some bad_options e = omega (arith, e)
 status_some (Argument x) e = argument_some x.code e
 status_some (Text x) e = text_some x.code e
 status_some (Patch x) e = patch_some x.code e
+status_some NoMergePatch e = omega (arith, e)
 
 -- ---- a success and a failure
 
@@ -64,6 +65,7 @@ valid_check o b bad_options has valid why = absurd (why has)
 valid_check o b (Text e) has valid why = valid_fails (rules_of_options o) b e.code e.place valid why.1
 valid_check o b (Argument e) has valid why = absurd why
 valid_check o b (Patch e) has valid why = absurd why
+valid_check o b NoMergePatch has valid why = absurd why
 
 pub check_complete : (r : Result (Unit {0}) Failure) (n : ℕ) (fault : FaultReport) (o : Options) (b : List ℕ) → TellsOutcome r n fault → IfErr r (CheckFails o b) → HasRules o → IsValid (rules_of_options o) b → (n ≡ 0) ⊎ (n ≡ 6)
 check_complete (Ok x) n fault o b s why has valid = inl s
@@ -96,6 +98,7 @@ reported_check o b bad_options n fault code place has s why h = absurd (why has)
 reported_check o b (Text e) n fault code place has s why h = reported_text (rules_of_options o) b n fault code e.code place e.place s.0 s.1 h why.1
 reported_check o b (Argument e) n fault code place has s why h = absurd why
 reported_check o b (Patch e) n fault code place has s why h = absurd why
+reported_check o b NoMergePatch n fault code place has s why h = absurd why
 
 pub check_exact : (r : Result (Unit {0}) Failure) (n : ℕ) (fault : FaultReport) (o : Options) (b : List ℕ) (code : ErrorCode) (place : Place) → TellsOutcome r n fault → OnOk r (HasRules o × IsValid (rules_of_options o) b) → IfErr r (CheckFails o b) → HasRules o
     → InputFault (rules_of_options o) b code place → Told code place n fault

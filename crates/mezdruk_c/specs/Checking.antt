@@ -1,17 +1,16 @@
 -- Why a text that C hands over is not read.
 use Rattle.std.specs.Prelude.{ℕ, List}
 use Rattle.json_grammar.specs.Rules.{Rules}
-use Rattle.json_text.specs.Ruled.{usual_rules}
 use Rattle.mezdruk_c.specs.declared.failure.Failure.{Failure}
 use Rattle.mezdruk_c.specs.declared.failure.Failure.TheVariants.{Options as bad_options, Argument, Text}
 use Rattle.mezdruk_c.specs.declared.options.Options.{Options}
 use Rattle.mezdruk_c.specs.Asked.{HasRules, rules_of_options}
 use Rattle.mezdruk_c.specs.Texts.{ReadingTextFails}
 
--- a text that is an argument fails so, by the usual rules
-abbrev pub IsArgumentFailure : List ℕ → Failure → Type 0
-IsArgumentFailure b (Argument e) = ReadingTextFails usual_rules b e.code e.place
-IsArgumentFailure b failure = ⊥
+-- a text that is an argument fails so, by rules
+abbrev pub IsArgumentFailure : Rules → List ℕ → Failure → Type 0
+IsArgumentFailure rules b (Argument e) = ReadingTextFails rules b e.code e.place
+IsArgumentFailure rules b failure = ⊥
 
 -- a text fails so, by rules
 abbrev pub IsTextFailure : Rules → List ℕ → Failure → Type 0

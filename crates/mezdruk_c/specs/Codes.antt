@@ -20,12 +20,12 @@ error_codes = error.NoMemory ∷ error.TooLarge ∷ error.InvalidUTF8 ∷ error.
 abbrev patch_codes : List PatchCode
 patch_codes = patch.BadPointer ∷ patch.BadPatch ∷ patch.TestFailed ∷ []
 
--- the name of options that are not valid
-abbrev bad_options_name : ℕ → Option (List ℕ)
-bad_options_name n = if n == 32 then Some (codes "BadOptions") else None
+-- those that only this library has: options that are not valid, and texts that no merge patch leads to each other
+abbrev own_name : ℕ → Option (List ℕ)
+own_name n = if n == 32 then Some (codes "BadOptions") else (if n == 33 then Some (codes "NoMergePatch") else None)
 
 abbrev patch_name_among : List PatchCode → ℕ → Option (List ℕ)
-patch_name_among [] n = bad_options_name n
+patch_name_among [] n = own_name n
 patch_name_among (c ∷ cs) n = if n == patch_code_number c then Some (patch_code_name c) else patch_name_among cs n
 
 abbrev error_name_among : List ErrorCode → ℕ → Option (List ℕ)

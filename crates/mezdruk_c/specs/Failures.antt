@@ -5,7 +5,7 @@ use Rattle.json_io.specs.declared.error.ErrorCode.TheVariants.{NoMemory, NotFoun
 use Rattle.json_patch.specs.declared.error.PatchCode.{PatchCode}
 use Rattle.json_patch.specs.declared.error.PatchCode.TheVariants as patch
 use Rattle.mezdruk_c.specs.declared.failure.Failure.{Failure}
-use Rattle.mezdruk_c.specs.declared.failure.Failure.TheVariants.{Options, Argument, Text, Patch}
+use Rattle.mezdruk_c.specs.declared.failure.Failure.TheVariants.{Options, Argument, Text, Patch, NoMergePatch}
 
 -- of an argument that could not be read
 abbrev pub argument_status_of : ErrorCode → ℕ
@@ -30,3 +30,4 @@ status_of_failure Options = 2
 status_of_failure (Argument e) = argument_status_of e.code
 status_of_failure (Text e) = text_status_of e.code
 status_of_failure (Patch e) = patch_status_of e.code
+status_of_failure NoMergePatch = 3

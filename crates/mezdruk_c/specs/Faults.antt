@@ -5,7 +5,7 @@ use Rattle.json_io.specs.declared.error.Place.{Place}
 use Rattle.json_io.specs.declared.error.Place.TheVariants.{At, Edit}
 use Rattle.json_patch.specs.Errors.{patch_code_number as patch_number}
 use Rattle.mezdruk_c.specs.declared.failure.Failure.{Failure}
-use Rattle.mezdruk_c.specs.declared.failure.Failure.TheVariants.{Options, Argument, Text, Patch}
+use Rattle.mezdruk_c.specs.declared.failure.Failure.TheVariants.{Options, Argument, Text, Patch, NoMergePatch}
 use Rattle.mezdruk_c.specs.declared.fault.FaultReport.{FaultReport}
 use Rattle.mezdruk_c.specs.Failures.{status_of_failure}
 
@@ -34,6 +34,7 @@ fault_of Options = fault_with 32 no_number
 fault_of (Argument e) = fault_at (number_of e.code) e.place
 fault_of (Text e) = fault_at (number_of e.code) e.place
 fault_of (Patch e) = fault_in (patch_number e.code) e.op
+fault_of NoMergePatch = fault_with 33 no_number
 
 -- a status and a fault tell an outcome
 abbrev pub TellsOutcome : Result (Unit {0}) Failure → ℕ → FaultReport → Type 0

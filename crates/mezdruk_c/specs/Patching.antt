@@ -9,7 +9,7 @@ use Rattle.json_patch.specs.Patch.{patched}
 use Rattle.json_patch.specs.declared.error.PatchError.{PatchError}
 use Rattle.json_patch.specs.Errors.{no_memory_in_patch}
 use Rattle.mezdruk_c.specs.declared.failure.Failure.{Failure}
-use Rattle.mezdruk_c.specs.declared.failure.Failure.TheVariants.{Options as bad_options, Argument, Text, Patch}
+use Rattle.mezdruk_c.specs.declared.failure.Failure.TheVariants.{Options as bad_options, Argument, Text, Patch, NoMergePatch}
 use Rattle.mezdruk_c.specs.declared.options.Options.{Options}
 use Rattle.mezdruk_c.specs.Asked.{AreOptions, rules_of_options, text_by_options}
 use Rattle.mezdruk_c.specs.Texts.{ReadingTextFails}
@@ -48,6 +48,7 @@ PatchCallFails o text patch bad_options = ¬ (AreOptions o)
 PatchCallFails o text patch (Argument e) = ReadingTextFails usual_rules patch e.code e.place
 PatchCallFails o text patch (Text e) = ReadingTextFails (rules_of_options o) text e.code e.place
 PatchCallFails o text patch (Patch e) = FailsOnTree o text patch e
+PatchCallFails o text patch NoMergePatch = ⊥
 
 -- why merging fails: one row for each kind of failure
 abbrev pub MergeFails : Options → List ℕ → List ℕ → Failure → Type 0
@@ -55,3 +56,4 @@ MergeFails o text patch bad_options = ¬ (AreOptions o)
 MergeFails o text patch (Argument e) = ReadingTextFails usual_rules patch e.code e.place
 MergeFails o text patch (Text e) = ReadingTextFails (rules_of_options o) text e.code e.place
 MergeFails o text patch (Patch e) = e ≡ no_memory_in_patch
+MergeFails o text patch NoMergePatch = ⊥

@@ -10,7 +10,7 @@ use Rattle.json_patch.specs.declared.error.PatchCode.TheVariants.{NoMemory, BadP
 use Rattle.json_io.specs.Errors.{no_memory as no_memory_for_text}
 use Rattle.json_io.specs.Utf8.{Utf8Cause}
 use Rattle.mezdruk_c.specs.declared.failure.Failure.{Failure}
-use Rattle.mezdruk_c.specs.declared.failure.Failure.TheVariants.{Options as bad_options, Argument, Text, Patch}
+use Rattle.mezdruk_c.specs.declared.failure.Failure.TheVariants.{Options as bad_options, Argument, Text, Patch, NoMergePatch}
 use Rattle.mezdruk_c.specs.declared.options.Options.{Options}
 use Rattle.mezdruk_c.specs.Asked.{AreOptions, rules_of_options, text_by_options}
 use Rattle.mezdruk_c.specs.Texts.{ReadingTextFails}
@@ -59,3 +59,4 @@ GetFails o text pointer bad_options = ¬ (AreOptions o)
 GetFails o text pointer (Argument e) = Utf8Cause pointer e.code e.place
 GetFails o text pointer (Text e) = ReadingTextFails (rules_of_options o) text e.code e.place
 GetFails o text pointer (Patch e) = FailsInTree o text pointer e.code e.op
+GetFails o text pointer NoMergePatch = ⊥

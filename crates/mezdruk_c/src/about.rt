@@ -43,6 +43,7 @@ fn name_of_code(code: u8) -> Option<&'static [u8]>
         30 => Some(b"BadPatch"),
         31 => Some(b"TestFailed"),
         32 => Some(b"BadOptions"),
+        33 => Some(b"NoMergePatch"),
         _ => None,
     }
 }

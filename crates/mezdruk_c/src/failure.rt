@@ -10,12 +10,14 @@ use json_patch::{PatchCode, PatchError};
 pub enum Failure {
     /// The options are not valid.
     Options,
-    /// The edits or the patch are not valid, or memory ran out for them.
+    /// The edits, the patch or the other text is not valid, or memory ran out for it.
     Argument(Error),
     /// The text is not valid, an edit does not apply to it, or memory ran out.
     Text(Error),
     /// The pointer is not valid, or the patch or the pointer does not apply, or memory ran out.
     Patch(PatchError),
+    /// No merge patch leads from the one text to the other.
+    NoMergePatch,
 }
 
 // Returns the status of an argument that could not be read.
@@ -51,7 +53,7 @@ fn patch_status_code(code: PatchCode) -> u8
 
 impl Failure {
     /// Returns the status: 1 if the text is not valid, 2 if the options, the edits or the patch are
-    /// not, 3 if a change does not apply, and 6 if memory ran out.
+    /// not, 3 if a change does not apply or there is none, and 6 if memory ran out.
     pub fn status(&self) -> u8
         ensures { result ≡ status_of_failure self.now }
     {
@@ -60,6 +62,7 @@ impl Failure {
             Failure::Argument(error) => argument_status(error.code),
             Failure::Text(error) => text_status(error.code),
             Failure::Patch(error) => patch_status_code(error.code),
+            Failure::NoMergePatch => 3,
         }
     }
 }

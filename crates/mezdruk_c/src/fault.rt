@@ -13,6 +13,9 @@ const NONE: usize = usize::MAX;
 /// The code of options that are not valid.
 const BAD_OPTIONS: u8 = 32;
 
+/// The code of two texts between which there is no merge patch.
+const NO_MERGE_PATCH: u8 = 33;
+
 /// What C learns of a failure.
 #[repr(C)]
 #[derive(Clone, Copy)]
@@ -84,6 +87,7 @@ impl FaultReport {
             Failure::Argument(error) => FaultReport::at(error.code.number(), error.place),
             Failure::Text(error) => FaultReport::at(error.code.number(), error.place),
             Failure::Patch(error) => FaultReport::in_operation(error.code.number(), error.op),
+            Failure::NoMergePatch => FaultReport::unplaced(NO_MERGE_PATCH, NONE),
         }
     }
 }

@@ -25,7 +25,7 @@ use std::rc::Rc;
 pub fn read_patch(alloc: Global, patch: &[u8]) -> Result<Rc<Doc>, Failure>
     ensures ok { IfOk result (λ d. IsInput usual_rules patch.now
         (doc_tree d.value (doc_root d.value))) }
-    ensures failed { IfErr result (IsArgumentFailure patch.now) }
+    ensures failed { IfErr result (IsArgumentFailure usual_rules patch.now) }
 {
     match read_input(alloc, patch, Rules::usual()) {
         Ok(doc) => Ok(doc),
@@ -45,6 +45,21 @@ pub fn value_from_text(alloc: Global, text: &[u8], rules: Rules) -> Result<Value
             Err(error) => Err(Failure::Text(error)),
         },
         Err(error) => Err(Failure::Text(error)),
+    }
+}
+
+/// Returns the value of the text to which a patch is to lead. Fails with `Failure::Argument` if the
+/// bytes are no JSON text, or if memory runs out.
+pub fn read_target(alloc: Global, target: &[u8], rules: Rules) -> Result<Value, Failure>
+    ensures ok { IfOk result (λ v. IsInput (rules_of rules) target.now (tree_of v)) }
+    ensures failed { IfErr result (IsArgumentFailure (rules_of rules) target.now) }
+{
+    match read_input(alloc, target, rules) {
+        Ok(doc) => match Value::from_place(alloc, &doc, doc.root()) {
+            Ok(value) => Ok(value),
+            Err(error) => Err(Failure::Argument(error)),
+        },
+        Err(error) => Err(Failure::Argument(error)),
     }
 }
 
