@@ -43,6 +43,8 @@ pub enum OperandKind {
     Step,
     /// A JSON Patch (RFC 6902) or a JSON Merge Patch (RFC 7396).
     Patch,
+    /// The name of the file with which others are compared.
+    File,
 }
 
 impl OperandKind {
@@ -55,6 +57,7 @@ impl OperandKind {
             OperandKind::Value | OperandKind::Text => "VALUE",
             OperandKind::Step => "STEP",
             OperandKind::Patch => "PATCH",
+            OperandKind::File => "OLD",
         }
     }
 }
@@ -105,7 +108,7 @@ fn is_verbatim(kind: OperandKind, word: &str) -> bool
 {
     match kind {
         OperandKind::Path => word.is_empty() || word.as_bytes().starts_with(b"/"),
-        OperandKind::Text => true,
+        OperandKind::Text | OperandKind::File => true,
         _ => false,
     }
 }
@@ -160,7 +163,7 @@ fn has_form(
     ensures only { IfErr result (λ r. r ≡ OperandError.OutOfMemory) }
 {
     match kind {
-        OperandKind::Value | OperandKind::Text | OperandKind::Patch => Ok(true),
+        OperandKind::Value | OperandKind::Text | OperandKind::Patch | OperandKind::File => Ok(true),
         OperandKind::Key => Ok(value.view().text().is_some()),
         OperandKind::Step => Ok(is_step(value.view())),
         OperandKind::Path => is_path_form(alloc, word, value),
@@ -169,7 +172,7 @@ fn has_form(
 }
 
 /// Returns the value that the text of an operand spells: a string of the text itself for a path
-/// that is empty or begins with `/`, and for `Text`, and else the value of the JSON text. Fails if
+/// that is empty or begins with `/`, for `Text` and for `File`, and else the value of the JSON text. Fails if
 /// such a path is no JSON Pointer, if another text is no JSON text by the usual rules or its value
 /// has not the form of the operand, and if memory runs out.
 ///

@@ -58,6 +58,10 @@ pub enum Setting {
     Raw,
     /// A value that is a string, as the argument is.
     StringValue,
+    /// A merge patch in place of a patch.
+    MergePatch,
+    /// A report of how many files were changed.
+    Verbose,
     /// The files changed in place.
     InPlace,
     /// Several documents in each input.
@@ -93,6 +97,10 @@ pub struct Settings {
     pub raw: bool,
     /// Whether the value of an edit is a string, as the argument is.
     pub string_value: bool,
+    /// Whether a merge patch is printed in place of a patch.
+    pub merge_patch: bool,
+    /// Whether it is reported how many files were changed.
+    pub verbose: bool,
     /// Whether files are changed in place.
     pub in_place: bool,
     /// Which documents each input has, if that is asked for.
@@ -152,6 +160,8 @@ impl Setting {
             "--unique-keys" => Some(Setting::UniqueKeys),
             "--raw" | "-r" => Some(Setting::Raw),
             "--string" => Some(Setting::StringValue),
+            "--merge" => Some(Setting::MergePatch),
+            "--verbose" | "-v" => Some(Setting::Verbose),
             "-i" | "--in-place" => Some(Setting::InPlace),
             "--lines" => Some(Setting::Input(RequestedInput::Lines)),
             "--stream" => Some(Setting::Input(RequestedInput::Stream)),
@@ -172,6 +182,8 @@ impl Settings {
             depth: None,
             raw: false,
             string_value: false,
+            merge_patch: false,
+            verbose: false,
             in_place: false,
             input: None,
         }
@@ -201,6 +213,14 @@ impl Settings {
             Setting::Raw if !self.raw => Some(Settings { raw: true, ..self }),
             Setting::StringValue if !self.string_value => Some(Settings {
                 string_value: true,
+                ..self
+            }),
+            Setting::MergePatch if !self.merge_patch => Some(Settings {
+                merge_patch: true,
+                ..self
+            }),
+            Setting::Verbose if !self.verbose => Some(Settings {
+                verbose: true,
                 ..self
             }),
             Setting::InPlace if !self.in_place => Some(Settings {
