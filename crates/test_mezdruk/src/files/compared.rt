@@ -1,7 +1,7 @@
 // Documents that are compared.
-use mezdruk_files::{Comparison, PatchForm, PatchStyle, print_difference, read_value};
 use json_print::Style;
 use json_text::{Result, Rules, VecSink};
+use mezdruk_files::{Comparison, PatchForm, PatchStyle, print_difference, read_value};
 use std::alloc::Global;
 
 // Two documents, what is told of them, and what is printed.

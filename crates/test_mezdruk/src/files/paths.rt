@@ -1,7 +1,7 @@
 // Several paths, keys and lengths.
 use crate::files::runs::{Outcome, Row, all_hold, compact};
-use mezdruk_files::{GetAll, GetKeys, GetLength, InputForm, ValueChange, ValuePath};
 use json_patch::Pointer;
+use mezdruk_files::{GetAll, GetKeys, GetLength, InputForm, ValueChange, ValuePath};
 use std::alloc::Global;
 
 // Returns the path that a pointer is.
