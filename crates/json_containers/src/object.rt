@@ -155,7 +155,7 @@ pub trait ObjectCalls {
     /// The members, each its key and its value, in order.
     fn iter(&self) -> Iter<'_>
         ensures trees { members_left result ≡ pairs_in (held self.now) }
-        ensures sights { members_targets_left result ≡ object_targets (held self.now) };
+        ensures targets { members_targets_left result ≡ object_targets (held self.now) };
 
     /// The value of the first member of the key, to be changed; none exactly where the key is
     /// missing. Fails with `NoMemory`, and changes nothing, if memory runs out.

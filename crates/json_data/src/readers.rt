@@ -201,9 +201,9 @@ impl<S: InputStr> DeserializeFrom<S> for () {
 
     fn deserialize<T: Tokens<S>>(alloc: Global, tokens: &mut T) -> Result<()> {
         let _ = alloc;
-        let told = tokens.peek()?;
+        let peeked = tokens.peek()?;
         tokens.skip()?;
-        if told != TokenKind::Null {
+        if peeked != TokenKind::Null {
             return Err(error_without_place(ErrorCode::TypeUnmatched));
         }
         Ok(())

@@ -15,7 +15,7 @@ impl<S: InputStr> DeserializeFrom<S> for Value {
 
     ghost from_tree = { read_value };
 
-    ghost placed = { λ stands v. stands v };
+    ghost placed = { λ holds v. holds v };
 
     fn deserialize<T: Tokens<S>>(alloc: Global, tokens: &mut T) -> Result<Value> {
         tokens.value(alloc)
@@ -27,7 +27,7 @@ impl<S: InputStr> DeserializeFrom<S> for Array {
 
     ghost from_tree = { read_array };
 
-    ghost placed = { λ stands a. stands (ArrayValue a) };
+    ghost placed = { λ holds a. holds (ArrayValue a) };
 
     fn deserialize<T: Tokens<S>>(alloc: Global, tokens: &mut T) -> Result<Array> {
         if tokens.peek()? != TokenKind::BeginArray {
@@ -46,7 +46,7 @@ impl<S: InputStr> DeserializeFrom<S> for Object {
 
     ghost from_tree = { read_object_value };
 
-    ghost placed = { λ stands o. stands (ObjectValue o) };
+    ghost placed = { λ holds o. holds (ObjectValue o) };
 
     fn deserialize<T: Tokens<S>>(alloc: Global, tokens: &mut T) -> Result<Object> {
         if tokens.peek()? != TokenKind::BeginObject {

@@ -186,7 +186,7 @@ impl Container<Value> {
     #[inline]
     pub fn view(&self) -> ArrayView<'_>
         ensures trees { elements_seen result ≡ list_in self.now }
-        ensures sights { elements_targets result ≡ array_targets self.now }
+        ensures targets { elements_targets result ≡ array_targets self.now }
     {
         let form = match &self.form {
             Form::Empty => ArrayForm::Whole(&[]),

@@ -41,7 +41,7 @@ impl<'a> ArrayView<'a> {
 
     pub(crate) fn of_packed(packed: PackedView<'a>) -> Option<ArrayView<'a>>
         ensures trees { option_map elements_seen result ≡ list_of (view_tree packed.entry.view) }
-        ensures sights { let p = packed.entry in option_map elements_targets result
+        ensures targets { let p = packed.entry in option_map elements_targets result
             ≡ target_elements (place_of (view_doc p.view) (doc_held p.holder) (view_place p.view)) }
     {
         match packed.view.get_type() {
@@ -54,7 +54,7 @@ impl<'a> ArrayView<'a> {
 
     pub(crate) fn of_value(value: &'a Value) -> Option<ArrayView<'a>>
         ensures trees { option_map elements_seen result ≡ list_of (tree_of value.now) }
-        ensures sights { option_map elements_targets result
+        ensures targets { option_map elements_targets result
             ≡ target_elements (whole_value value.now) }
     {
         match value {
@@ -98,7 +98,7 @@ impl<'a> ArrayView<'a> {
     #[inline]
     pub fn iter(self) -> ArrayIter<'a>
         ensures trees { elements_left result ≡ elements_seen self.entry }
-        ensures sights { elements_targets_left result ≡ elements_targets self.entry }
+        ensures targets { elements_targets_left result ≡ elements_targets self.entry }
     {
         let left = match self.form {
             ArrayForm::Packed(packed) => ElementsLeft::of_packed(packed),
@@ -198,7 +198,7 @@ impl<'a> ElementsLeft<'a> {
     #[inline]
     fn of_packed(packed: PackedView<'a>) -> ElementsLeft<'a>
         ensures trees { trees_to_come result ≡ elements (view_tree packed.entry.view) }
-        ensures sights { let p = packed.entry in let ts = elements (view_tree p.view) in
+        ensures targets { let p = packed.entry in let ts = elements (view_tree p.view) in
             remaining_targets result
             ≡ elements_at (view_doc p.view) (doc_held p.holder) (view_place p.view) ts }
     {

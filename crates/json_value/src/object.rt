@@ -197,7 +197,7 @@ impl Container<Keyed<Value>> {
     #[inline]
     pub fn view(&self) -> ObjectView<'_>
         ensures trees { members_seen result ≡ pairs_in self.now }
-        ensures sights { members_targets result ≡ object_targets self.now }
+        ensures targets { members_targets result ≡ object_targets self.now }
     {
         let form = match &self.form {
             Form::Empty => ObjectForm::Whole(&[]),

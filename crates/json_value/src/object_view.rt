@@ -42,7 +42,7 @@ impl<'a> ObjectView<'a> {
     pub(crate) fn of_packed(packed: PackedView<'a>) -> Option<ObjectView<'a>>
         ensures trees { option_map members_seen result
             ≡ object_pairs (view_tree packed.entry.view) }
-        ensures sights { let p = packed.entry in option_map members_targets result
+        ensures targets { let p = packed.entry in option_map members_targets result
             ≡ target_members (place_of (view_doc p.view) (doc_held p.holder) (view_place p.view)) }
     {
         match packed.view.get_type() {
@@ -55,7 +55,7 @@ impl<'a> ObjectView<'a> {
 
     pub(crate) fn of_value(value: &'a Value) -> Option<ObjectView<'a>>
         ensures trees { option_map members_seen result ≡ object_pairs (tree_of value.now) }
-        ensures sights { option_map members_targets result ≡ target_members (whole_value value.now) }
+        ensures targets { option_map members_targets result ≡ target_members (whole_value value.now) }
     {
         match value {
             Value::Object(object) => Some(object.view()),
@@ -126,7 +126,7 @@ impl<'a> ObjectView<'a> {
     #[inline]
     pub fn iter(self) -> Iter<'a>
         ensures trees { members_left result ≡ members_seen self.entry }
-        ensures sights { members_targets_left result ≡ members_targets self.entry }
+        ensures targets { members_targets_left result ≡ members_targets self.entry }
     {
         let left = match self.form {
             ObjectForm::Packed(packed) => MembersLeft::of_packed(packed),
@@ -232,7 +232,7 @@ impl<'a> MembersLeft<'a> {
     #[inline]
     fn of_packed(packed: PackedView<'a>) -> MembersLeft<'a>
         ensures trees { pairs_to_come result ≡ members (view_tree packed.entry.view) }
-        ensures sights { let p = packed.entry in let ps = members (view_tree p.view) in
+        ensures targets { let p = packed.entry in let ps = members (view_tree p.view) in
             remaining_member_targets result
             ≡ members_at (view_doc p.view) (doc_held p.holder) (view_place p.view) ps }
     {

@@ -173,7 +173,7 @@ impl<'a> View<'a> {
     #[inline]
     pub fn as_array(self) -> Option<ArrayView<'a>>
         ensures trees { option_map elements_seen result ≡ list_of (seen self.entry) }
-        ensures sights { option_map elements_targets result ≡ target_elements (view_target self.entry) }
+        ensures targets { option_map elements_targets result ≡ target_elements (view_target self.entry) }
     {
         match self.form {
             ViewForm::Packed(packed) => ArrayView::of_packed(packed),
@@ -186,7 +186,7 @@ impl<'a> View<'a> {
     #[inline]
     pub fn as_object(self) -> Option<ObjectView<'a>>
         ensures trees { option_map members_seen result ≡ object_pairs (seen self.entry) }
-        ensures sights { option_map members_targets result ≡ target_members (view_target self.entry) }
+        ensures targets { option_map members_targets result ≡ target_members (view_target self.entry) }
     {
         match self.form {
             ViewForm::Packed(packed) => ObjectView::of_packed(packed),

@@ -38,7 +38,7 @@ returns-in_ok-path-in-Some-get-clause-shares c root there =
     let target = view_target c.args.target in
     let ms = members_targets c.in-Some.object in
     let old = view_target c.in-Some-get.old in
-    let found = target_of_key k target old ms (sym c.in-Some.ensures.sights) (ap (λ n. option_map (λ (q : List ℕ × ViewTarget). q.1) (first_of n ms)) (sym c.as_str.ensures) ∙ sym c.in-Some-get.ensures.target) in
+    let found = target_of_key k target old ms (sym c.in-Some.ensures.targets) (ap (λ n. option_map (λ (q : List ℕ × ViewTarget). q.1) (first_of n ms)) (sym c.as_str.ensures) ∙ sym c.in-Some-get.ensures.target) in
     record {
       target = old;
       there = ap (λ q. target_along q root) c.in_ok-path-in-Some-get.ensures.path ∙ target_one_more p (key_step k) root target old there found;

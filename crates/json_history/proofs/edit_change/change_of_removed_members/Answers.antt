@@ -34,6 +34,6 @@ returns-clause-shares c root there =
       target = view_target c.args.target;
       members = members_targets c.in-Some.object;
       there = ap (λ q. target_along q root) c.in_ok-path.ensures.path ∙ there;
-      object = sym c.in-Some.ensures.sights;
+      object = sym c.in-Some.ensures.targets;
       shared = c.in_ok-list.ensures.shares;
     }

@@ -41,10 +41,10 @@ loop-name-preserved c =
                 ap (λ v. map removed_member v.items ++ members_named (suc (len - l.left)) k (list_pairs rest)) w.list-is
                 ∙ ap (λ xs. map removed_member l.list.items ++ xs) (sym (named_after (len - l.left) k name (seen value) _ rest (sym c.eq.ensures ∙ w.if-eq.false) c.in-Some.ensures.steps.0)) ∙ h.members
           ];
-      sights = left_behind all len l.left (length rest) (name, view_target value) (members_targets_left l.name-iterator) _ more h.below h.sights c.in-Some.ensures.steps.1;
+      targets = left_behind all len l.left (length rest) (name, view_target value) (members_targets_left l.name-iterator) _ more h.below h.targets c.in-Some.ensures.steps.1;
       shares = elim c.if-eq.branch [
         | then-eq+in_ok-copy_member_at+in_ok-push w ↦
-            let new = member_shares all (len - l.left) (name, view_target value) _ _ w.in_ok-copy_member_at.field-0 h.sights c.in-Some.ensures.steps.1 w.in_ok-copy_member_at.ensures.index w.in_ok-copy_member_at.ensures.shares in
+            let new = member_shares all (len - l.left) (name, view_target value) _ _ w.in_ok-copy_member_at.field-0 h.targets c.in-Some.ensures.steps.1 w.in_ok-copy_member_at.ensures.index w.in_ok-copy_member_at.ensures.shares in
             subst (All (MemberShares all)) (sym (ap (λ v. v.items) w.list-is ∙ w.in_ok-push.ensures.items)) (All-push (MemberShares all) l.list.items w.in_ok-copy_member_at.field-0 h.shares new)
         | else-eq w ↦ subst (λ v. All (MemberShares all) v.items) (sym w.list-is) h.shares
       ];

@@ -16,6 +16,6 @@ invariant-loop-name l = record {
   count : l.left ≡ length (members_left l.name-iterator);
   below : l.left ≤ l.len;
   members : map removed_member l.list.items ++ members_named (l.len - l.left) l.key (list_pairs (members_left l.name-iterator)) ≡ members_named 0 l.key (list_pairs (members_seen l.fn.object));
-  sights : members_targets_left l.name-iterator ≡ drop (l.len - l.left) (members_targets l.fn.object);
+  targets : members_targets_left l.name-iterator ≡ drop (l.len - l.left) (members_targets l.fn.object);
   shares : All (MemberShares (members_targets l.fn.object)) l.list.items;
 }

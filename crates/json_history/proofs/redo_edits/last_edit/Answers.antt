@@ -28,7 +28,7 @@ returns-in-Some-as_array-clause-edit c =
     c.last_push_edit.ensures.edit
 
 pub returns-in-Some-clause-shares : goal.returns-in-Some-clause-shares
-returns-in-Some-clause-shares c = c.last_insert_edit.ensures.shares (view_target c.args.target) (sym c.in-Some.ensures.sights)
+returns-in-Some-clause-shares c = c.last_insert_edit.ensures.shares (view_target c.args.target) (sym c.in-Some.ensures.targets)
 
 pub returns-in-Some-as_array-clause-shares : goal.returns-in-Some-as_array-clause-shares
-returns-in-Some-as_array-clause-shares c = c.last_push_edit.ensures.shares (view_target c.args.target) (sym c.in-Some-as_array.ensures.sights)
+returns-in-Some-as_array-clause-shares c = c.last_push_edit.ensures.shares (view_target c.args.target) (sym c.in-Some-as_array.ensures.targets)

@@ -17,8 +17,8 @@ returns-in-Some-as_object-clause-tree c =
 pub returns-in-Some-as_object-clause-target : goal.returns-in-Some-as_object-clause-target
 returns-in-Some-as_object-clause-target c =
     IfOk-weaker c.or_not_found.result (λ v. option_map view_target c.get.result ≡ Some (view_target v)) (λ v. target_at_token c.args.token.now (seen c.args.here) (view_target c.args.here) ≡ Some (view_target v))
-    (λ v h. at_object_target c.args.token.now (seen c.args.here) (members_seen c.in-Some-as_object.object) (view_target c.args.here) (members_targets c.in-Some-as_object.object) (view_target v) c.in-Some-as_object.ensures.trees c.in-Some-as_object.ensures.sights (sym c.get.ensures.target ∙ h))
+    (λ v h. at_object_target c.args.token.now (seen c.args.here) (members_seen c.in-Some-as_object.object) (view_target c.args.here) (members_targets c.in-Some-as_object.object) (view_target v) c.in-Some-as_object.ensures.trees c.in-Some-as_object.ensures.targets (sym c.get.ensures.target ∙ h))
     c.or_not_found.ensures.target
 
 pub returns-in-Some-clause-target : goal.returns-in-Some-clause-target
-returns-in-Some-clause-target c = c.find_element.ensures.target (seen c.args.here) (view_target c.args.here) c.in-Some.ensures.trees c.in-Some.ensures.sights
+returns-in-Some-clause-target c = c.find_element.ensures.target (seen c.args.here) (view_target c.args.here) c.in-Some.ensures.trees c.in-Some.ensures.targets

@@ -11,8 +11,8 @@ use Rattle.json_value.proofs.array_view.ElementsLeft.of_packed.Goals as goal
 pub returns-in-Array-clause-trees : goal.returns-in-Array-clause-trees
 returns-in-Array-clause-trees c = let a = c.in-Array.ensures.tree in a.2 ∙ sym (ap elements a.1)
 
-pub returns-in-Array-clause-sights : goal.returns-in-Array-clause-sights
-returns-in-Array-clause-sights c =
+pub returns-in-Array-clause-targets : goal.returns-in-Array-clause-targets
+returns-in-Array-clause-targets c =
     let p = c.args.packed in let e = c.in-Array.elements in let a = c.in-Array.ensures.tree in
     let count : length (children_places e) ≡ length (elements (view_tree p.view)) = sym (length-map (children_places e) (doc_tree (children_doc e))) ∙ ap length (a.2 ∙ sym (ap elements a.1)) in
     elements_by_place (view_doc p.view) (doc_held p.holder) (view_place p.view) (children_places e) (elements (view_tree p.view)) count

@@ -12,8 +12,8 @@ use Rattle.json_value.proofs.object_view.MembersLeft.of_packed.Goals as goal
 pub returns-in-Object-clause-trees : goal.returns-in-Object-clause-trees
 returns-in-Object-clause-trees c = let o = c.in-Object.ensures.tree in o.2 ∙ sym (ap members o.1)
 
-pub returns-in-Object-clause-sights : goal.returns-in-Object-clause-sights
-returns-in-Object-clause-sights c =
+pub returns-in-Object-clause-targets : goal.returns-in-Object-clause-targets
+returns-in-Object-clause-targets c =
     let p = c.args.packed in let e = c.in-Object.members in let o = c.in-Object.ensures.tree in
     let same = o.2 ∙ sym (ap members o.1) in
     let all = length-map (places_of_pairs e) (doc_pair (pairs_doc e)) in
