@@ -43,13 +43,10 @@ module _ (line : Tree → List ℕ) (all : List Tree) (old : SinkState) where
   all_written left now u none h =
       subst (λ ts. WritesOutput old now (flat_map line ts) (Ok u)) (sym (h.whole ∙ ap (λ ts. h.first ++ ts) none ∙ append-nil h.first)) h.wrote
 
-  -- memory ran out before the next line
-  no_more : (now : SinkState) → WritesOutput now now [] (Err no_memory)
-  no_more now = record { ok = tt; flushed = tt; err = written_then_none now now now [] tt no_memory (WritesOutput-nil now) refl refl; reported = λ l. absurd (omega (arith, l)) }
-
-  pub none_more : (left : List Tree) (now : SinkState) (e : Error) → e ≡ no_memory → WroteSoFar line all left old now → WritesOutput old now (flat_map line all) (Err e)
-  none_more left now e only h =
-      subst (λ (x : Error). WritesOutput old now (flat_map line all) (Err x)) (sym only)
-      (subst (λ l. WritesOutput old now l (Err no_memory)) (sym (ap (flat_map line) h.whole ∙ flat_map-append line h.first left))
-      (subst (λ l. WritesOutput old now (l ++ flat_map line left) (Err no_memory)) (append-nil (flat_map line h.first))
-      (WritesOutput-first old now (flat_map line h.first ++ []) (flat_map line left) no_memory (WritesOutput-then old now now (flat_map line h.first) [] tt (Err no_memory) h.wrote (no_more now)))))
+-- memory ran out before anything was written
+pub none_begun : (text : List ℕ) (now : SinkState) (e : Error) → e ≡ no_memory → WritesOutput now now text (Err e)
+none_begun text now e only =
+    subst (λ (x : Error). WritesOutput now now text (Err x)) (sym only) (WritesOutput-first now now [] text no_memory nothing)
+  where
+    nothing : WritesOutput now now [] (Err no_memory)
+    nothing = record { ok = tt; flushed = tt; err = written_then_none now now now [] tt no_memory (WritesOutput-nil now) refl refl; reported = λ l. absurd (omega (arith, l)) }

@@ -3,13 +3,28 @@ ghost use Rattle.std.specs.List.{flat_map};
 ghost use Rattle.mezdruk_files.specs.Outcomes.{line_in, lines_in};
 ghost use Rattle.mezdruk_files.specs.Writing.{WritesOutput};
 ghost use Rattle.json_value.specs.Denotes.{tree_of};
-ghost use Rattle.json_value.specs.Seen.{elements_seen};
+ghost use Rattle.json_value.specs.Seen.{elements_seen, seen};
 
 use crate::job::{Job, write_line};
 use json_io::{Result, Sink};
 use json_layout::Style;
-use json_value::{ArrayView, Value};
+use json_value::{ArrayView, Value, View};
 use std::alloc::Global;
+
+// Prints the line of the element.
+fn write_element<K: Sink>(
+    alloc: Global,
+    element: View<'_>,
+    style: Option<Style<'_>>,
+    raw: bool,
+    sink: &mut K,
+) -> Result<()>
+    ensures { WritesOutput (K.state sink.old) (K.state sink.new)
+        (line_in raw style.entry (seen element.entry)) result }
+{
+    let value = element.to_value(alloc)?;
+    write_line(alloc, &value, style, raw, sink)
+}
 
 // Prints the line of each element.
 fn write_each<K: Sink>(
@@ -23,14 +38,7 @@ fn write_each<K: Sink>(
         (flat_map (line_in raw style.entry) (elements_seen array.entry)) result }
 {
     'elements: for element in array.iter() {
-        let value = match element.to_value(alloc) {
-            Ok(value) => value,
-            Err(error) => return Err(error),
-        };
-        match write_line(alloc, &value, style, raw, sink) {
-            Ok(()) => {}
-            Err(error) => return Err(error),
-        }
+        write_element(alloc, element, style, raw, sink)?;
     }
     Ok(())
 }
