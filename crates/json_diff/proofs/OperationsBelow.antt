@@ -10,7 +10,7 @@ below_under : (b : List ℕ) (k : ReferenceToken) (p : List ReferenceToken) → 
 below_under b k p = sym (append_assoc b (slash ∷ escaped_token k) (pointer_text p))
 
 one_under : (b : List ℕ) (k : ReferenceToken) (o : Operation) → operation_below b (under k o) ≡ operation_below (b ++ (slash ∷ escaped_token k)) o
-one_under b k (add_at p u) = ap (λ q. operation_members (codes "add_at") (text q) (pair_and (codes "value") u no_pairs)) (below_under b k p)
+one_under b k (add_at p u) = ap (λ q. operation_members (codes "add") (text q) (pair_and (codes "value") u no_pairs)) (below_under b k p)
 one_under b k (remove p) = ap (λ q. operation_members (codes "remove") (text q) no_pairs) (below_under b k p)
 one_under b k (replace p u) = ap (λ q. operation_members (codes "replace") (text q) (pair_and (codes "value") u no_pairs)) (below_under b k p)
 one_under b k (move r p) = ap₂ (λ q s. operation_members (codes "move") (text q) (pair_and (codes "from") (text s) no_pairs)) (below_under b k p) (below_under b k r)

@@ -16,7 +16,7 @@ operation_members n p ms = pairs (pair_and (codes "op") (text n) (pair_and (code
 
 -- an operation on the value at the pointer of the text b
 abbrev pub operation_below : List ℕ → Operation → Tree
-operation_below b (add_at p u) = operation_members (codes "add_at") (pointer_below b p) (pair_and (codes "value") u no_pairs)
+operation_below b (add_at p u) = operation_members (codes "add") (pointer_below b p) (pair_and (codes "value") u no_pairs)
 operation_below b (remove p) = operation_members (codes "remove") (pointer_below b p) no_pairs
 operation_below b (replace p u) = operation_members (codes "replace") (pointer_below b p) (pair_and (codes "value") u no_pairs)
 operation_below b (move q p) = operation_members (codes "move") (pointer_below b p) (pair_and (codes "from") (pointer_below b q) no_pairs)

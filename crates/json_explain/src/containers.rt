@@ -48,8 +48,8 @@ use std::alloc::Global;
 /// }
 /// let mut members = NoMembers(true);
 /// let mut tokens = TextTokens::new("{\"a\": 1}");
-/// let error_without_place = explain_members(alloc, &mut members, &mut tokens)?.ok_or("no error_without_place")?;
-/// assert_eq!(rt; format!(in alloc; "{error_without_place}")?.as_str(), "/a");
+/// let refusal = explain_members(alloc, &mut members, &mut tokens)?.ok_or("no refusal")?;
+/// assert_eq!(rt; format!(in alloc; "{refusal}")?.as_str(), "/a");
 /// ```
 pub trait ExplainMembers<S: InputStr>: Sized {
     /// How the members are read.

@@ -65,7 +65,7 @@ move_allowed o = o
 -- the operation named by `op`, given `path`, `from` and `value`
 abbrev pub operation_named : List ℕ → Option (List ReferenceToken) → Option (List ReferenceToken) → Option Tree → Option Operation
 operation_named n path from value =
-    cond (bytes_eq n (codes "add_at")) (operation_with_value add_at path value)
+    cond (bytes_eq n (codes "add")) (operation_with_value add_at path value)
     (cond (bytes_eq n (codes "remove")) (with_path remove path)
     (cond (bytes_eq n (codes "replace")) (operation_with_value replace path value)
     (cond (bytes_eq n (codes "move")) (move_allowed (with_from move from path))

@@ -259,7 +259,7 @@ fn apply_list(root: &mut Value, alloc: Global, list: ArrayView<'_>) -> Result<()
 /// use json_value::{Value, View};
 /// let doc = read_document(alloc, "{\"a\": [true]}")?;
 /// let mut value = Value::from_place(alloc, &doc, doc.root())?;
-/// let patch = read_document(alloc, "[{\"op\": \"add_at\", \"path\": \"/a/0\", \"value\": null}]")?;
+/// let patch = read_document(alloc, "[{\"op\": \"add\", \"path\": \"/a/0\", \"value\": null}]")?;
 /// apply_patch(alloc, &mut value, View::packed(patch.view()))?;
 /// assert_eq!(rt; value.to_string(alloc)?.as_str(), "{\"a\":[null,true]}");
 /// ```

@@ -23,7 +23,7 @@ is_edit name =
 
 -- whether there is a method of this name
 abbrev pub is_method : List ℕ → Bool
-is_method name = bytes_eq name (codes "respond_to_get") || is_edit name
+is_method name = bytes_eq name (codes "get") || is_edit name
 
 -- the params by position (JSON-RPC 2.0, section 4.2); there are none if they are by name or omitted
 abbrev pub positional_params : Option Tree → List Tree
@@ -38,7 +38,7 @@ get_with _ = None
 -- what a method asks for with these params: those of an edit are the elements after its name in
 -- an edits argument
 abbrev pub operation_with : List ℕ → List Tree → Option MethodOperation
-operation_with name params = cond (bytes_eq name (codes "respond_to_get")) (get_with params) (option_map change_document (edit_named name params))
+operation_with name params = cond (bytes_eq name (codes "get")) (get_with params) (option_map change_document (edit_named name params))
 
 -- what a request asks for, or the error that it gets
 abbrev pub requested_operation : Request → Result MethodOperation RpcError

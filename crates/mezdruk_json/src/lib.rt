@@ -61,7 +61,7 @@
 //! let read = from_str::<BTreeMap<String, Vec<u8>>>(alloc, text);
 //! let error = read.err().ok_or("no error")?;
 //! assert_eq!(rt; (error.line(), error.column()), (Some(2), Some(2)));
-//! let path = error.refusal().ok_or("no error_without_place")?;
+//! let path = error.refusal().ok_or("no refusal")?;
 //! assert_eq!(rt; format!(in alloc; "{path}")?.as_str(), "/a/1");
 //! ```
 //!
