@@ -14,7 +14,7 @@ use json_doc_print::internal::{show_bool, show_elements, show_members, show_numb
 use json_io::{Sink, SinkError, SinkResult};
 use json_layout::{BufferedWriter, Layout, show_piece, show_text};
 
-/// Writes the text of the value's tree, with `level` containers around it.
+/// Writes the value's text inside `level` containers.
 #[cycle(shown_value)]
 pub(crate) fn show_value<W: Sink, L: Layout>(
     value: &Value,
@@ -45,7 +45,7 @@ pub(crate) fn show_value<W: Sink, L: Layout>(
     }
 }
 
-// A key, and what is written before it and after it.
+// Writes a key, what separates it from the member before it, and the colon after it.
 pub(crate) fn show_key<W: Sink, L: Layout>(
     key: &Text,
     layout: L,
@@ -62,7 +62,7 @@ pub(crate) fn show_key<W: Sink, L: Layout>(
     layout.colon(out)
 }
 
-// An element, and what is written before it.
+// Writes an element and the separator and the whitespace before it.
 #[cycle(shown_value)]
 fn show_owned_element<W: Sink, L: Layout>(
     value: &Value,

@@ -19,7 +19,8 @@ use json_doc_print::internal::{
 use json_io::{Sink, SinkError, SinkResult};
 use json_layout::{BufferedWriter, Layout, show_piece, show_text};
 
-/// Writes the text of the value's tree, sorted, with `level` containers around it.
+/// Writes the value's text inside `level` containers, with the members of each object sorted by
+/// their keys.
 #[cycle(shown_sorted_value)]
 pub(crate) fn show_sorted_value<W: Sink, L: Layout>(
     value: &Value,
