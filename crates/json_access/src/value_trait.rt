@@ -97,8 +97,8 @@ pub trait JsonValueTrait {
         self.as_u64().is_some()
     }
 
-    /// Returns the `f64` nearest to the number; of two that are equally near, the even one. Returns
-    /// `None` if that is not finite, and for a value of another kind.
+    /// Returns the `f64` nearest to the number, with ties to even. Returns `None` if that is not
+    /// finite, or if the value is of another kind.
     fn as_f64(&self) -> Option<f64>
         ensures { result ≡ double_in (tree self.now) };
 

@@ -41,7 +41,7 @@ use std::rc::Rc;
 /// ```
 pub type Array = Container<Value>;
 
-// The elements of a packed array, each as a value of its own.
+// Returns the elements of a packed array, each as a value that is read from its position.
 fn unpack_list(alloc: Global, place: &DocumentPosition) -> Result<Vec<Value>>
     ensures list { IfOk result (λ v. map tree_of v.items ≡ elements (place_tree place.now)) }
     ensures children { IfOk result (λ v. PlaceElements place.now v.items) }
@@ -53,7 +53,7 @@ fn unpack_list(alloc: Global, place: &DocumentPosition) -> Result<Vec<Value>>
     }
 }
 
-// Elements of the document, each as a value of its own.
+// Returns the elements, each as a value that is read from its position in `doc`.
 fn unpack_elements(alloc: Global, doc: &Rc<Doc>, elements: DocChildren<'_>) -> Result<Vec<Value>>
     requires { children_doc elements ≡ doc.now.value }
     ensures list { IfOk result (λ v. map tree_of v.items ≡ children_left elements.entry) }
@@ -120,7 +120,7 @@ impl Container<Value> {
     }
 
     /// Returns the elements as a slice, or `None` if the array is packed in a document.
-    /// [`Array::view`] reads the elements of both.
+    /// [`Array::view`] reads the elements in either case.
     pub fn list(&self) -> Option<&[Value]>
         ensures list { IfSome result (λ v. map tree_of v.now ≡ list_in self.now) }
         ensures items { IfSome result (λ v. v.now ≡ owned_items_of self.now) }
@@ -185,7 +185,7 @@ impl Container<Value> {
         self.form.owned()
     }
 
-    /// Returns a view of the whole array, by which it is read.
+    /// Returns a read-only view of the whole array.
     #[inline]
     pub fn view(&self) -> ArrayView<'_>
         ensures trees { elements_seen result ≡ list_in self.now }

@@ -20,8 +20,8 @@ pub(crate) enum ArrayForm<'a> {
     Whole(&'a [Value]),
 }
 
-/// A read-only view of an array, of a [`Value`] or in a packed document. It is a small reference
-/// that can be copied, and it takes no memory.
+/// A read-only view of an array that is in a [`Value`] or in a packed document. It is a small
+/// reference that can be copied, and it takes no memory.
 ///
 /// ```
 /// use json_value::Value;
@@ -196,7 +196,7 @@ impl<'a> PackedElements<'a> {
 impl<'a> ElementsLeft<'a> {
     ghost use Rattle.json_value.specs.Left.{trees_to_come, remaining_targets};
 
-    // The elements of a place of a document; none where that is no array.
+    // Returns the elements of a packed array; none of another kind.
     #[inline]
     fn of_packed(packed: PackedView<'a>) -> ElementsLeft<'a>
         ensures trees { trees_to_come result ≡ elements (view_tree packed.entry.view) }
@@ -214,7 +214,7 @@ impl<'a> ElementsLeft<'a> {
 impl<'a> ArrayIter<'a> {
     ghost use Rattle.json_value.specs.Left.{elements_left};
 
-    /// Returns how many elements the iterator has still to return.
+    /// Returns the number of elements that are left.
     #[inline]
     pub fn len(&self) -> usize
         ensures { result ≡ length (elements_left self.now) }

@@ -128,7 +128,7 @@ impl ContainerMut for Value {
     }
 }
 
-// Returns the element at `index`, to be changed. Fails with `NotFound` or `TypeUnmatched`.
+// The element of the index.
 pub(crate) fn element_of<S: ContainerMut>(
     container: &mut S,
     alloc: Global,

@@ -41,13 +41,13 @@ pub trait Index: Drop {
 
     /// Returns a mutable reference to the value in `v` to which the step leads. A key that is
     /// missing is first appended with null, and if `v` is null it counts as an empty object. A
-    /// write through the reference changes that value and nothing else of the tree. A packed
-    /// container is first copied by one level.
+    /// write through the reference changes that value and nothing else. A packed container is first
+    /// copied by one level.
     ///
     /// Fails with `NotFound` if the array has no such index. Fails with `TypeUnmatched` for an
     /// index if `v` is no array, and for a key if it is neither an object nor null. Fails with
-    /// `NoMemory` if memory runs out. After an error the tree is unchanged, but that copy may have
-    /// been made.
+    /// `NoMemory` if memory runs out. After an error nothing is changed, except that this copy may
+    /// have been made.
     final fn index_or_insert<'v>(&self, alloc: Global, v: &'v mut Value) -> Result<&'v mut Value>
         ensures* writes_back { sem 𝓛 (LendsSoOk value_row value_row v.entry result
             (λ n w. (put_or_insert (step self.now) (tree_of w) (tree_of v.old) ≡ Ok (tree_of n))

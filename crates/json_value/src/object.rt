@@ -45,7 +45,7 @@ use std::rc::Rc;
 /// ```
 pub type Object = Container<Pair>;
 
-// The members of a packed object, each with a key and a value of its own.
+// Returns the members of a packed object, each key and value read from its position.
 fn unpack_pairs(alloc: Global, place: &DocumentPosition) -> Result<Vec<Pair>>
     ensures pairs { IfOk result (λ v. map pair_of v.items ≡ members (place_tree place.now)) }
     ensures children { IfOk result (λ v. PlaceMembers place.now v.items) }
@@ -57,7 +57,7 @@ fn unpack_pairs(alloc: Global, place: &DocumentPosition) -> Result<Vec<Pair>>
     }
 }
 
-// Members of the document, each with a key and a value of its own.
+// Returns the members, each key and value read from its position in `doc`.
 fn unpack_members(alloc: Global, doc: &Rc<Doc>, mut members: DocPairs<'_>) -> Result<Vec<Pair>>
     requires { pairs_doc members ≡ doc.now.value }
     ensures pairs { IfOk result (λ v. map pair_of v.items ≡ pairs_left members.entry) }
@@ -132,7 +132,7 @@ impl Container<Keyed<Value>> {
     }
 
     /// Returns the members as a slice, or `None` if the object is packed in a document.
-    /// [`Object::view`] reads the members of both.
+    /// [`Object::view`] reads the members in either case.
     pub fn pairs(&self) -> Option<&[Pair]>
         ensures pairs { IfSome result (λ v. map pair_of v.now ≡ pairs_in self.now) }
         ensures items { IfSome result (λ v. v.now ≡ owned_items_of self.now) }
@@ -197,7 +197,7 @@ impl Container<Keyed<Value>> {
         self.form.owned()
     }
 
-    /// Returns a view of the whole object, by which it is read.
+    /// Returns a read-only view of the whole object.
     #[inline]
     pub fn view(&self) -> ObjectView<'_>
         ensures trees { members_seen result ≡ pairs_in self.now }

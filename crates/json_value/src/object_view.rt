@@ -21,8 +21,8 @@ pub(crate) enum ObjectForm<'a> {
     Whole(&'a [Pair]),
 }
 
-/// A read-only view of an object, of a [`Value`] or in a packed document. Members keep their order,
-/// and keys may repeat. It is a small reference that can be copied, and it takes no memory.
+/// A read-only view of an object that is in a [`Value`] or in a packed document. Members keep their
+/// order, and keys may repeat. It is a small reference that can be copied, and it takes no memory.
 ///
 /// ```
 /// use json_doc::read_document;
@@ -64,7 +64,7 @@ impl<'a> ObjectView<'a> {
         }
     }
 
-    /// Returns the number of members; those with equal keys count each.
+    /// Returns the number of members. Members with equal keys are counted each.
     #[inline]
     pub fn len(self) -> usize
         ensures { result ≡ length (members_seen self.entry) }
@@ -233,7 +233,7 @@ impl<'a> PackedMembers<'a> {
 impl<'a> MembersLeft<'a> {
     ghost use Rattle.json_value.specs.Left.{pairs_to_come, remaining_member_targets};
 
-    // The members of a place of a document; none where that is no object.
+    // Returns the members of a packed object; none of another kind.
     #[inline]
     fn of_packed(packed: PackedView<'a>) -> MembersLeft<'a>
         ensures trees { pairs_to_come result ≡ members (view_tree packed.entry.view) }
@@ -251,7 +251,7 @@ impl<'a> MembersLeft<'a> {
 impl<'a> Iter<'a> {
     ghost use Rattle.json_value.specs.Left.{members_left};
 
-    /// Returns how many members the iterator has still to return.
+    /// Returns the number of members that are left.
     #[inline]
     pub fn len(&self) -> usize
         ensures { result ≡ length (members_left self.now) }

@@ -107,8 +107,7 @@ pub fn find_key(pairs: &[Pair], key: &str) -> Option<usize>
     None
 }
 
-// Sets the value of the first member named `key`, or appends a member with a copy of `key`. After
-// an error the members are unchanged.
+// Puts the value at the first member of the key, or appends such a member.
 pub(crate) fn insert_pair(
     pairs: &mut Vec<Pair>,
     alloc: Global,
@@ -154,8 +153,7 @@ pub(crate) fn put_pair(members: &mut Vec<Pair>, pair: Pair) -> Result<()>
     }
 }
 
-// Returns the index of the first member named `key`; if there is none, it is appended with null.
-// After an error the members are unchanged.
+// Appends a member of the key with null where none has it. The number of the first one of the key.
 pub(crate) fn find_or_insert(pairs: &mut Vec<Pair>, alloc: Global, key: &str) -> Result<usize>
     ensures first { IfOk result (λ i. IsFirstOf key.now (map pair_of pairs.new.items) i) }
     ensures pairs { IfOk result (λ i. list_pairs (map pair_of pairs.new.items)

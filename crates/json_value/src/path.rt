@@ -43,9 +43,9 @@ pub struct Path {
     pub(crate) steps: Vec<PointerNode>,
 }
 
-/// A change of a value, which [`Value::apply`] makes. `path` leads from that value to the one
-/// within it that is changed. An edit that does not apply there is an error and leaves the tree
-/// unchanged.
+/// A change of a value, to be made by [`Value::apply`]. `path` leads from that value to the one
+/// within it that is changed. An edit that does not fit the value there fails, and the value
+/// denotes the same JSON as before it.
 ///
 /// ```
 /// use json_text::ErrorCode;

@@ -18,8 +18,7 @@ use crate::value::Value;
 use json_io::{ErrorCode, Result};
 use std::alloc::Global;
 
-/// What holds a value, and lends mutable references to that value and to those within it. [`Value`]
-/// implements it.
+/// Lends mutable references to a value and to the values within it. [`Value`] implements it.
 ///
 /// ```
 /// use json_doc::read_document;
@@ -35,12 +34,13 @@ pub trait Places {
     ghost held: { Self → Value };
 
     /// Returns a mutable reference to the value to which the steps of `path` lead; without steps it
-    /// is the whole value. A write through it changes that value and nothing else of the tree.
-    /// Packed containers on the way are copied by one level each.
+    /// is the whole value. A write through it changes that value and nothing else. Packed
+    /// containers on the way are copied by one level each.
     ///
     /// Fails with `NotFound` if a step names a key or an index that is missing. Fails with
     /// `TypeUnmatched` if a key meets no object or an index no array. Fails with `NoMemory` if
-    /// memory runs out. After an error the tree is unchanged, but such copies may have been made.
+    /// memory runs out. After an error nothing is changed, except that such copies may have been
+    /// made.
     fn place_mut<'v>(&'v mut self, alloc: Global, path: &[PointerNode]) -> Result<&'v mut Value>
         ensures* writes_back { sem 𝓛 (LendsSoOk Self.row value_row self.entry result
             (λ n w. IfOk result (λ v. PutsAtPath (steps_of path.now) v.now w (held self.old)
@@ -58,8 +58,8 @@ impl Places for Value {
 }
 
 /// Replaces the value in `target` to which the steps of `path` lead by `new`. Fails as
-/// [`Places::place_mut`] does; the tree is then unchanged, but packed containers on the way may
-/// have been copied by one level each.
+/// [`Places::place_mut`] does. After an error nothing is changed, except that packed containers on
+/// the way may have been copied by one level each.
 pub fn put<V: Places>(target: &mut V, alloc: Global, path: &[PointerNode], new: Value) -> Result<()>
     ensures ok { OnOk result (Makes (edited_once (set_at (steps_of path.now) (tree_of new))
         (tree_of (V.held target.old))) (V.held target.new)) }
@@ -77,8 +77,8 @@ pub fn put<V: Places>(target: &mut V, alloc: Global, path: &[PointerNode], new: 
 }
 
 /// Calls `change` with a mutable reference to the value in `target` to which the steps of `path`
-/// lead, to change it. Fails as [`Places::place_mut`] does. `change` is not called then; the tree
-/// is unchanged, but packed containers on the way may have been copied by one level each.
+/// lead. Fails as [`Places::place_mut`] does; `change` is not called then. After an error nothing
+/// is changed, except that packed containers on the way may have been copied by one level each.
 pub fn update<V: Places, F: FnOnce(&mut Value)>(
     target: &mut V,
     alloc: Global,

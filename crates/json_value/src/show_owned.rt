@@ -80,7 +80,7 @@ fn show_owned_element<W: Sink, L: Layout>(
     show_value(value, layout, level, out)
 }
 
-// An array of these elements.
+// Writes an array of these elements.
 #[cycle(shown_value)]
 pub(crate) fn show_values<W: Sink, L: Layout>(
     values: &Vec<Value>,
@@ -104,7 +104,7 @@ pub(crate) fn show_values<W: Sink, L: Layout>(
     layout.close(out, level, first, b']')
 }
 
-// An object of these members.
+// Writes an object of these members.
 #[cycle(shown_value)]
 pub(crate) fn show_owned_pairs<W: Sink, L: Layout>(
     values: &Vec<Pair>,

@@ -138,8 +138,8 @@ impl<'a> View<'a> {
         }
     }
 
-    /// Returns the `f64` nearest to the number; of two that are equally near, the even one. Returns
-    /// `None` if that is not finite, and for a value of another kind.
+    /// Returns the `f64` nearest to the number, with ties to even. Returns `None` if that is not
+    /// finite, or if the value is of another kind.
     ///
     /// ```
     /// use json_doc::read_document;
@@ -288,8 +288,8 @@ impl<'a> View<'a> {
         }
     }
 
-    /// Returns a [`Value`] of the same tree, which later writes to the viewed value do not change.
-    /// A view of a whole value is cloned. A packed part of a value stays packed in the same
+    /// Returns a copy of what is viewed as a [`Value`], which later writes to the original do not
+    /// change. A view of a whole value is cloned. A packed part of a value stays packed in the same
     /// document. A view made by [`View::packed`] is copied whole, as a value of its own. Fails with
     /// `NoMemory` if memory runs out.
     pub fn to_value(self, alloc: Global) -> Result<Value>
@@ -323,10 +323,10 @@ impl<'a> View<'a> {
         }
     }
 
-    /// Writes the value as a JSON text to `out`, with the whitespace of `layout` between tokens.
-    /// Returns the first error of the sink inside `out`; a prefix of the text was written then.
-    /// Fails with `NoMemory` only if memory runs out in that sink, or for a text of 2^64 - 1 bytes
-    /// or more.
+    /// Writes the value as a JSON text to `out`, with the whitespace of `layout` between tokens. If
+    /// the sink inside `out` fails, returns its error. Fails with `NoMemory` only if memory runs
+    /// out in that sink, or for a text of 2^64 - 1 bytes or more. After an error a prefix of the
+    /// text was written.
     pub fn print<W: Sink, L: Layout>(self, layout: L, out: &mut BufferedWriter<W>) -> Result<()>
         ensures text { WritesText (⟦<BufferedWriter<W> as Sink>⟧.state out.old)
             (⟦<BufferedWriter<W> as Sink>⟧.state out.new)
@@ -342,8 +342,8 @@ impl<'a> View<'a> {
     /// Writes the value as [`View::print`] does, but sorts the members of each object by the bytes
     /// of their keys; members with equal keys keep their order. For an object whose keys are not in
     /// order it allocates 16 bytes a member, until the end of that object is written. Fails as
-    /// [`View::print`] does, and with `NoMemory` if memory runs out; a prefix of the text was
-    /// written then.
+    /// [`View::print`] does, and with `NoMemory` if memory runs out. After an error a prefix of the
+    /// text was written.
     pub fn print_sorted<W: Sink, L: Layout>(
         self,
         alloc: Global,

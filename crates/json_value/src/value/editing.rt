@@ -114,8 +114,8 @@ impl Value {
     /// or an index that is missing. Fails with `TypeUnmatched` if a key or an insertion meets no
     /// object, or if an index or a push meets no array. Fails with `NoMemory` if memory runs out.
     ///
-    /// After an error the tree is unchanged, but packed containers on the way may have been copied
-    /// by one level each.
+    /// After an error nothing is changed, except that packed containers on the way may have been
+    /// copied by one level each.
     pub fn apply(&mut self, alloc: Global, edit: &Edit) -> Result<()>
         ensures ok { OnOk result (Makes (edited_once (edit_of edit.now) (tree_of self.old))
             self.new) }

@@ -53,10 +53,10 @@ fn none_if_no_object<'a>(r: Result<&'a mut Object>) -> Result<Option<&'a mut Obj
 impl Value {
     /// Returns a mutable reference to the value to which the steps of `path` lead, or `None` if a
     /// step names a member or an element that is not there. Without steps it is the whole value. A
-    /// write through it changes that value and nothing else of the tree.
+    /// write through it changes that value and nothing else.
     ///
     /// Packed containers on the way are copied by one level each. Fails with `NoMemory` if memory
-    /// runs out. After `None` or an error the tree is unchanged, but such copies may have been
+    /// runs out. After `None` or an error nothing is changed, except that such copies may have been
     /// made.
     pub fn reach(&mut self, alloc: Global, path: &[PointerNode]) -> Result<Option<&mut Value>>
         ensures* writes_back { sem 𝓛 (LendsPlace self.entry result
@@ -71,11 +71,10 @@ impl Value {
 
     /// Returns a mutable reference to the value of the first member named `index`, or to the
     /// element at `index`, counted from 0, or `None` if there is none. `index` is a `&str`, a
-    /// `usize` or a [`PointerNode`]. A write through it changes that value and nothing else of the
-    /// tree.
+    /// `usize` or a [`PointerNode`]. A write through it changes that value and nothing else.
     ///
     /// A packed container is first copied by one level. Fails with `NoMemory` if memory runs out.
-    /// After `None` or an error the tree is unchanged, but that copy may have been made.
+    /// After `None` or an error nothing is changed, except that this copy may have been made.
     pub fn step_mut<I: Index>(&mut self, alloc: Global, index: I) -> Result<Option<&mut Value>>
         ensures* writes_back { sem 𝓛 (LendsPlace self.entry result
             (λ x w n. PutsAtPath (I.step index ∷ []) x w self.old n)
@@ -89,7 +88,7 @@ impl Value {
 
     /// Appends `val` to the array and returns a mutable reference to the new element. The value
     /// must be an array; a packed one is first copied by one level. Fails with `NoMemory` if memory
-    /// runs out. The tree is then unchanged, but that copy may have been made.
+    /// runs out. Then nothing is changed, except that this copy may have been made.
     pub fn append_value(&mut self, alloc: Global, val: Value) -> Result<&mut Value>
         requires { type_of (tree_of self.old) ≡ JsonType.Array }
         ensures* writes_back { sem 𝓛 (LendsSoOk value_row value_row self.entry result
@@ -102,8 +101,8 @@ impl Value {
 
     /// Sets the value of the first member named `key` to `val`, or appends such a member if there
     /// is none, and returns a mutable reference to the member's value. The value must be an object;
-    /// a packed one is first copied by one level. Fails with `NoMemory` if memory runs out. The
-    /// tree is then unchanged, but that copy may have been made.
+    /// a packed one is first copied by one level. Fails with `NoMemory` if memory runs out. Then
+    /// nothing is changed, except that this copy may have been made.
     pub fn insert(&mut self, alloc: Global, key: &str, val: Value) -> Result<&mut Value>
         requires { type_of (tree_of self.old) ≡ JsonType.Object }
         ensures* writes_back { sem 𝓛 (LendsSoOk value_row value_row self.entry result
@@ -149,9 +148,9 @@ impl Value {
     }
 
     /// Returns a mutable reference to the array that the value is, or `None` if it is of another
-    /// kind. What is written through it becomes the value. A packed array is first copied by one
-    /// level. Fails with `NoMemory` if memory runs out. `None` and an error leave the value as it
-    /// was.
+    /// kind. What is written through it becomes the value's array. A packed array is first copied
+    /// by one level. Fails with `NoMemory` if memory runs out. `None` and an error leave the value
+    /// as it was.
     pub fn as_array_mut(&mut self, alloc: Global) -> Result<Option<&mut Array>>
         ensures* writes_back { sem 𝓛 (LendsPart value_row array_row self.entry result
             (λ n w. (tree_of n ≡ list (list_trees (list_in w))) × (n ≡ ArrayValue w))
@@ -165,9 +164,9 @@ impl Value {
     }
 
     /// Returns a mutable reference to the object that the value is, or `None` if it is of another
-    /// kind. What is written through it becomes the value. A packed object is first copied by one
-    /// level. Fails with `NoMemory` if memory runs out. `None` and an error leave the value as it
-    /// was.
+    /// kind. What is written through it becomes the value's object. A packed object is first copied
+    /// by one level. Fails with `NoMemory` if memory runs out. `None` and an error leave the value
+    /// as it was.
     pub fn as_object_mut(&mut self, alloc: Global) -> Result<Option<&mut Object>>
         ensures* writes_back { sem 𝓛 (LendsPart value_row object_row self.entry result
             (λ n w. (tree_of n ≡ pairs (list_pairs (pairs_in w))) × (n ≡ ObjectValue w))

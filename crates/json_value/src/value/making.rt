@@ -182,7 +182,7 @@ impl Value {
         }
     }
 
-    /// Creates the value null, as what stands for `()`. Takes no memory.
+    /// Creates the value null, for the unit `()`. Takes no memory.
     pub fn from_unit() -> Value
         ensures { tree_of result ≡ null }
     {
