@@ -33,7 +33,7 @@ use std::alloc::Global;
 /// assert!(rt; value.is_object() && value.get("name").is_null());
 /// ```
 pub trait JsonValueTrait {
-    /// The tree of the value.
+    /// The tree that the value denotes.
     ghost tree: { Self → Tree };
 
     /// Returns the kind of the value.

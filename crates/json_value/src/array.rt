@@ -41,7 +41,7 @@ use std::rc::Rc;
 /// ```
 pub type Array = Container<Value>;
 
-// Returns the elements of a packed array, each as a value that is read from its position.
+// The elements of a packed array, each as a value of its own.
 fn unpack_list(alloc: Global, place: &DocumentPosition) -> Result<Vec<Value>>
     ensures list { IfOk result (λ v. map tree_of v.items ≡ elements (place_tree place.now)) }
     ensures children { IfOk result (λ v. PlaceElements place.now v.items) }
