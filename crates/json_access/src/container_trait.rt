@@ -8,8 +8,8 @@ ghost use Rattle.json_access.specs.Trees.{result_value};
 use crate::value_trait::JsonValueTrait;
 use json_value::{Array, Object, Value};
 
-/// Methods to get the array or the object that a JSON value is: of a `Value`, of a reference to one,
-/// or of an `Option` or a `Result` of these. They return `None` for `None` and `Err`.
+/// Methods to get the array or the object that a JSON value is: of a `Value`, of a reference to
+/// one, or of an `Option` or a `Result` of these. They return `None` for `None` and `Err`.
 ///
 /// ```
 /// use json_access::JsonContainerTrait;

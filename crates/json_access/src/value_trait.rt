@@ -18,8 +18,8 @@ use json_number::{JsonNumberTrait, Number, RawNumber};
 use json_value::{Value, View};
 use std::alloc::Global;
 
-/// Methods to read a JSON value: of a `Value`, of a `View`, of a reference to one, or of an `Option`
-/// or a `Result` of these. `None` and `Err` are read as null.
+/// Methods to read a JSON value: of a `Value`, of a `View`, of a reference to one, or of an
+/// `Option` or a `Result` of these. `None` and `Err` are read as null.
 ///
 /// ```
 /// use json_access::JsonValueTrait;
@@ -36,7 +36,7 @@ pub trait JsonValueTrait {
     /// The tree that the value denotes.
     ghost tree: { Self → Tree };
 
-    /// Returns the kind of the value.
+    /// Returns the kind of the value: null, boolean, number, string, array or object.
     fn get_type(&self) -> JsonType
         ensures { result ≡ type_of (tree self.now) };
 
@@ -61,8 +61,8 @@ pub trait JsonValueTrait {
             ≡ spelling (tree self.now)) }
         ensures only { OnlyNoMemory result };
 
-    /// Returns the number if it is an integer of `i64`, or `None` for any other number and for a value
-    /// of another kind.
+    /// Returns the number if it is an integer of `i64`, or `None` for any other number and for a
+    /// value of another kind.
     fn as_i64(&self) -> Option<i64>
         ensures { result ≡ i64_of (tree self.now) }
     {
@@ -72,8 +72,8 @@ pub trait JsonValueTrait {
         }
     }
 
-    /// Returns the number if it is an integer of `u64`, or `None` for any other number and for a value
-    /// of another kind.
+    /// Returns the number if it is an integer of `u64`, or `None` for any other number and for a
+    /// value of another kind.
     fn as_u64(&self) -> Option<u64>
         ensures { result ≡ u64_of (tree self.now) }
     {
@@ -102,8 +102,8 @@ pub trait JsonValueTrait {
     fn as_f64(&self) -> Option<f64>
         ensures { result ≡ double_in (tree self.now) };
 
-    /// Returns whether the value is a number that is no integer of `u64` or `i64`, and whose nearest
-    /// `f64` is finite.
+    /// Returns whether the value is a number that is no integer of `u64` or `i64`, and whose
+    /// nearest `f64` is finite.
     fn is_f64(&self) -> bool
         ensures { result ≡ is_double (integer_in_tree (tree self.now)) (double_in (tree self.now)) }
     {

@@ -1,4 +1,4 @@
-// Laws of values.
+//! Laws of values: the contract of each function is a law, and the function does nothing.
 ghost use Rattle.json_grammar.specs.Proper.{IsProper};
 ghost use Rattle.json_value.specs.Denotes.{tree_of};
 ghost use Rattle.json_value.specs.Laws.{FirstElementsAreRead, FirstMembersAreRead, FirstElementsStay, FirstMembersStay};

@@ -21,9 +21,9 @@ use std::alloc::Global;
 /// ```
 #[derive(Drop)]
 pub enum PointerNode {
-    /// To the value of the first member with this key; the value must be an object.
+    /// From an object to the value of its first member with this key.
     Key(Text),
-    /// To the element with this index, counted from 0; the value must be an array.
+    /// From an array to its element with this index, counted from 0.
     Index(usize),
 }
 
@@ -44,8 +44,8 @@ pub struct Path {
 }
 
 /// A change of a value, to be made by [`Value::apply`]. `path` leads from that value to the one
-/// within it that is changed. An edit that does not fit the value there fails, and the value
-/// denotes the same JSON as before it.
+/// within it that is changed. If the change cannot be made there, `apply` fails and the content of
+/// the value is unchanged.
 ///
 /// ```
 /// use json_text::ErrorCode;

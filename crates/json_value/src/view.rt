@@ -87,7 +87,7 @@ impl<'a> View<'a> {
         }
     }
 
-    /// Returns the kind of the value.
+    /// Returns the kind of the value: null, boolean, number, string, array or object.
     #[inline]
     pub fn get_type(self) -> JsonType
         ensures { result ≡ type_of (seen self.entry) }
@@ -306,10 +306,10 @@ impl<'a> View<'a> {
         }
     }
 
-    /// Writes the tokens of the value to `out`, integers of `u64` or `i64` by value, and other
+    /// Writes the tokens of the value to `out`, integers of `u64` or `i64` by value and other
     /// numbers as literals. Stops at the first error of `out` and returns it. If `out` had failed
-    /// before the call, that error is returned and nothing is written; otherwise a value must be
-    /// allowed next.
+    /// before the call, returns that error again and writes nothing; otherwise a value must be
+    /// allowed as the next token of `out`.
     pub fn emit<E: Events>(self, out: &mut E) -> Result<()>
         requires { AcceptsValue (E.failed out.old) (E.token_state (E.state out.old)) }
         ensures given { Emits E.after E.stopped (E.state out.old) (E.state out.new)
