@@ -8,8 +8,8 @@ ghost use Rattle.json_access.specs.Trees.{result_value};
 use crate::value_trait::JsonValueTrait;
 use json_value::{Array, Object, Value};
 
-/// What denotes a JSON value and lends the container that the value is. What is missing and what
-/// was refused are none.
+/// Methods to get the array or the object that a JSON value is: of a `Value`, of a reference to
+/// one, or of an `Option` or a `Result` of these. They return `None` for `None` and `Err`.
 ///
 /// ```
 /// use json_access::JsonContainerTrait;
@@ -20,15 +20,15 @@ use json_value::{Array, Object, Value};
 /// assert!(rt; found.as_object().is_none());
 /// ```
 pub trait JsonContainerTrait: JsonValueTrait {
-    /// The value that it denotes, where there is one.
+    /// The value itself; none for `None` and `Err`.
     ghost value_there: { Self → Option Value };
 
-    /// The array; none exactly for another kind.
+    /// Returns the array that the value is, or `None` if it is of another kind.
     fn as_array(&self) -> Option<&Array>
         ensures list { option_map (λ a. list_in a.now) result ≡ list_of (Self.tree self.now) }
         ensures array { IfSome result (λ a. value_there self.now ≡ Some (ArrayValue a.now)) };
 
-    /// The object; none exactly for another kind.
+    /// Returns the object that the value is, or `None` if it is of another kind.
     fn as_object(&self) -> Option<&Object>
         ensures pairs { option_map (λ o. pairs_in o.now) result
             ≡ object_pairs (Self.tree self.now) }

@@ -1,5 +1,7 @@
-//! The traits by which anything that denotes a JSON value (RFC 8259, section 3) is read and
-//! written: a value, a view, or what may be missing or refused, which counts as null.
+//! Traits to read and change JSON values (RFC 8259, section 3). [`JsonValueTrait`] reads a value, a
+//! view, a reference to one, or an `Option` or a `Result` of these; `None` and `Err` are read as
+//! null. [`JsonContainerTrait`] gets the array or the object that a value is. [`JsonValueMutTrait`]
+//! changes a value in place.
 //!
 //! ```
 //! use json_access::{JsonValueMutTrait, JsonValueTrait};

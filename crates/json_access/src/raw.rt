@@ -10,7 +10,7 @@ use json_number::RawNumber;
 use json_value::View;
 use std::alloc::Global;
 
-// The literal of the number; none of another kind.
+// Returns a copy of the literal of the number, or `None` if the value is of another kind.
 pub(crate) fn raw_number(view: View<'_>, alloc: Global) -> Result<Option<RawNumber>>
     ensures literal { IfOk result (λ o. option_map raw_literal o ≡ spelling (seen view.entry)) }
     ensures only { OnlyNoMemory result }

@@ -19,9 +19,11 @@ use json_io::Result;
 use json_value::{Array, Index, Object, PointerNode, Value};
 use std::alloc::Global;
 
-/// What denotes a JSON value and lends the places in it to be changed. What the caller leaves at a
-/// place is put there, and nothing else of the tree changes; a copy of one level is made of each
-/// packed container on the way, and nothing more changes on None and on a refusal.
+/// Methods to change a JSON value in place, by mutable references to it and to values within it.
+/// What is written through a reference changes that value and nothing else.
+///
+/// A value may be packed: then it is read from a shared document. Packed containers on the way to
+/// what is lent are copied by one level each. After `None` or an error nothing else is changed.
 ///
 /// ```
 /// use json_access::JsonValueMutTrait;
@@ -34,11 +36,13 @@ use std::alloc::Global;
 /// assert!(rt; value.get_mut(alloc, 2usize)?.is_none());
 /// ```
 pub trait JsonValueMutTrait: JsonValueTrait {
-    /// The value whose places are lent.
+    /// The value to which, and within which, references are lent.
     ghost held: { Self → Value };
 
-    /// The array; none exactly for another kind. None and a refusal change nothing.
-    /// Fails with `NoMemory` if memory runs out.
+    /// Returns a mutable reference to the array that the value is, or `None` if it is of another
+    /// kind. What is written through it becomes the value's array. A packed array is first copied
+    /// by one level. Fails with `NoMemory` if memory runs out. `None` and an error leave the value
+    /// as it was.
     fn as_array_mut(&mut self, alloc: Global) -> Result<Option<&mut Array>>
         ensures* writes_back { sem 𝓛 (LendsPart Self.row array_row self.entry result
             (λ n w. (Self.tree n ≡ list (list_trees (list_in w))) × (held n ≡ ArrayValue w))
@@ -48,8 +52,10 @@ pub trait JsonValueMutTrait: JsonValueTrait {
         ensures children { IfSome (lent result) (ArrayOpened (held self.old)) }
         ensures only { OnlyNoMemory result };
 
-    /// The object; none exactly for another kind. None and a refusal change nothing.
-    /// Fails with `NoMemory` if memory runs out.
+    /// Returns a mutable reference to the object that the value is, or `None` if it is of another
+    /// kind. What is written through it becomes the value's object. A packed object is first copied
+    /// by one level. Fails with `NoMemory` if memory runs out. `None` and an error leave the value
+    /// as it was.
     fn as_object_mut(&mut self, alloc: Global) -> Result<Option<&mut Object>>
         ensures* writes_back { sem 𝓛 (LendsPart Self.row object_row self.entry result
             (λ n w. (Self.tree n ≡ pairs (list_pairs (pairs_in w))) × (held n ≡ ObjectValue w))
@@ -59,8 +65,11 @@ pub trait JsonValueMutTrait: JsonValueTrait {
         ensures children { IfSome (lent result) (ObjectOpened (held self.old)) }
         ensures only { OnlyNoMemory result };
 
-    /// The value of the first member of a key, or the element of an index; none where the step
-    /// leads nowhere. Fails with `NoMemory` if memory runs out.
+    /// Returns a mutable reference to the value of the first member named `index`, or to the
+    /// element at `index`, counted from 0, or `None` if there is none. `index` is a `&str`, a
+    /// `usize` or a [`PointerNode`]. A packed container is first copied by one level. Fails with
+    /// `NoMemory` if memory runs out. After `None` or an error nothing is changed, except that this
+    /// copy may have been made.
     fn get_mut<I: Index>(&mut self, alloc: Global, index: I) -> Result<Option<&mut Value>>
         ensures* writes_back { sem 𝓛 (LendsPart Self.row value_row self.entry result
             (λ n w. IfSome (lent result) (λ x.
@@ -73,8 +82,11 @@ pub trait JsonValueMutTrait: JsonValueTrait {
             ≡ child (I.step index) (Self.tree self.old)) }
         ensures only { OnlyNoMemory result };
 
-    /// The place to which the steps lead; none where one of them leads nowhere.
-    /// Fails with `NoMemory` if memory runs out.
+    /// Returns a mutable reference to the value to which the steps of `path` lead, or `None` if a
+    /// step names a member or an element that is not there. Without steps it is the whole value.
+    /// Packed containers on the way are copied by one level each. Fails with `NoMemory` if memory
+    /// runs out. After `None` or an error nothing is changed, except that such copies may have been
+    /// made.
     fn pointer_mut(&mut self, alloc: Global, path: &[PointerNode]) -> Result<Option<&mut Value>>
         ensures* writes_back { sem 𝓛 (LendsPart Self.row value_row self.entry result
             (λ n w. IfSome (lent result) (λ x.

@@ -18,7 +18,8 @@ use json_number::{JsonNumberTrait, Number, RawNumber};
 use json_value::{Value, View};
 use std::alloc::Global;
 
-/// What denotes a JSON value. What is missing and what was refused count as null.
+/// Methods to read a JSON value: of a `Value`, of a `View`, of a reference to one, or of an
+/// `Option` or a `Result` of these. `None` and `Err` are read as null.
 ///
 /// ```
 /// use json_access::JsonValueTrait;
@@ -32,33 +33,36 @@ use std::alloc::Global;
 /// assert!(rt; value.is_object() && value.get("name").is_null());
 /// ```
 pub trait JsonValueTrait {
-    /// The tree that it denotes.
+    /// The tree that the value denotes.
     ghost tree: { Self → Tree };
 
-    /// The kind of the value.
+    /// Returns the kind of the value: null, boolean, number, string, array or object.
     fn get_type(&self) -> JsonType
         ensures { result ≡ type_of (tree self.now) };
 
-    /// The boolean; none of another kind.
+    /// Returns the boolean, or `None` if the value is of another kind.
     fn as_bool(&self) -> Option<bool>
         ensures { result ≡ bool_of (tree self.now) };
 
-    /// The text of the string; none of another kind.
+    /// Returns the characters of the string, unescaped, or `None` if the value is of another kind.
     fn as_str(&self) -> Option<&str>
         ensures { option_map (λ s. s.now) result ≡ string_of (tree self.now) };
 
-    /// The number, where it is an integer of `u64` or `i64`; none of another, nor of another kind.
+    /// Returns the number if it is an integer of `u64` or `i64`, or `None` for any other number and
+    /// for a value of another kind.
     fn as_number(&self) -> Option<Number>
         ensures { option_map value_of result ≡ integer_in_tree (tree self.now) };
 
-    /// The literal of the number: as it was written, or the decimal text of an integer of `u64` or
-    /// `i64`; none of another kind. Fails with `NoMemory` if memory runs out.
+    /// Returns a copy of the literal of the number, or `None` if the value is of another kind. That
+    /// of an integer of `u64` or `i64` is its decimal text; any other literal is as it was written.
+    /// Fails with `NoMemory` if memory runs out.
     fn as_raw_number(&self, alloc: Global) -> json_io::Result<Option<RawNumber>>
         ensures literal { IfOk result (λ o. option_map raw_literal o
             ≡ spelling (tree self.now)) }
         ensures only { OnlyNoMemory result };
 
-    /// The integer, where it is one of `i64`; none of another number, nor of another kind.
+    /// Returns the number if it is an integer of `i64`, or `None` for any other number and for a
+    /// value of another kind.
     fn as_i64(&self) -> Option<i64>
         ensures { result ≡ i64_of (tree self.now) }
     {
@@ -68,7 +72,8 @@ pub trait JsonValueTrait {
         }
     }
 
-    /// The integer, where it is one of `u64`; none of another number, nor of another kind.
+    /// Returns the number if it is an integer of `u64`, or `None` for any other number and for a
+    /// value of another kind.
     fn as_u64(&self) -> Option<u64>
         ensures { result ≡ u64_of (tree self.now) }
     {
@@ -78,83 +83,83 @@ pub trait JsonValueTrait {
         }
     }
 
-    /// Whether it is an integer of `i64`.
+    /// Returns whether the value is an integer of `i64`.
     fn is_i64(&self) -> bool
         ensures { result ≡ is_some (i64_of (tree self.now)) }
     {
         self.as_i64().is_some()
     }
 
-    /// Whether it is an integer of `u64`.
+    /// Returns whether the value is an integer of `u64`.
     fn is_u64(&self) -> bool
         ensures { result ≡ is_some (u64_of (tree self.now)) }
     {
         self.as_u64().is_some()
     }
 
-    /// Returns the double nearest to the number, of two that are equally near the even one, where
-    /// that is finite; `None` of another number, and of another kind.
+    /// Returns the `f64` nearest to the number, with ties to even. Returns `None` if that is not
+    /// finite, or if the value is of another kind.
     fn as_f64(&self) -> Option<f64>
         ensures { result ≡ double_in (tree self.now) };
 
-    /// Returns whether it is a number that is no integer of `u64` or `i64`, and the double nearest to
-    /// it is finite.
+    /// Returns whether the value is a number that is no integer of `u64` or `i64`, and whose
+    /// nearest `f64` is finite.
     fn is_f64(&self) -> bool
         ensures { result ≡ is_double (integer_in_tree (tree self.now)) (double_in (tree self.now)) }
     {
         !self.is_i64() && !self.is_u64() && self.as_f64().is_some()
     }
 
-    /// Whether it is null.
+    /// Returns whether the value is null, also for `None` and `Err`.
     fn is_null(&self) -> bool
         ensures { IsTrue result ↔ (type_of (tree self.now) ≡ kind.Null) }
     {
         self.get_type() == JsonType::Null
     }
 
-    /// Whether it is true or false.
+    /// Returns whether the value is a boolean.
     fn is_boolean(&self) -> bool
         ensures { IsTrue result ↔ (type_of (tree self.now) ≡ kind.Boolean) }
     {
         self.get_type() == JsonType::Boolean
     }
 
-    /// Whether it is true.
+    /// Returns whether the value is the boolean true.
     fn is_true(&self) -> bool
         ensures { IsTrue result ↔ (tree self.now ≡ boolean true) }
     {
         self.as_bool() == Some(true)
     }
 
-    /// Whether it is false.
+    /// Returns whether the value is the boolean false.
     fn is_false(&self) -> bool
         ensures { IsTrue result ↔ (tree self.now ≡ boolean false) }
     {
         self.as_bool() == Some(false)
     }
 
-    /// Whether it is a number.
+    /// Returns whether the value is a number.
     fn is_number(&self) -> bool
         ensures { IsTrue result ↔ (type_of (tree self.now) ≡ kind.Number) }
     {
         self.get_type() == JsonType::Number
     }
 
-    /// Whether it is a string.
+    /// Returns whether the value is a string.
     fn is_str(&self) -> bool
         ensures { IsTrue result ↔ (type_of (tree self.now) ≡ kind.String) }
     {
         self.get_type() == JsonType::String
     }
 
-    /// Whether it is an array.
+    /// Returns whether the value is an array.
     fn is_array(&self) -> bool
         ensures { IsTrue result ↔ (type_of (tree self.now) ≡ kind.Array) }
     {
         self.get_type() == JsonType::Array
     }
 
-    /// Whether it is an object.
+    /// Returns whether the value is an object.
     fn is_object(&self) -> bool
         ensures { IsTrue result ↔ (type_of (tree self.now) ≡ kind.Object) }
     {

@@ -29,7 +29,7 @@ use json_layout::answered;
 use std::alloc::Global;
 use std::rc::Rc;
 
-/// An array (RFC 8259, section 5).
+/// An array (RFC 8259, section 5): a [`Container`] of values.
 ///
 /// ```
 /// use json_value::{Array, Value};
@@ -53,7 +53,7 @@ fn unpack_list(alloc: Global, place: &DocumentPosition) -> Result<Vec<Value>>
     }
 }
 
-// Elements of the document, each as a value of its own.
+// Returns the elements, each as a value that is read from its position in `doc`.
 fn unpack_elements(alloc: Global, doc: &Rc<Doc>, elements: DocChildren<'_>) -> Result<Vec<Value>>
     requires { children_doc elements ≡ doc.now.value }
     ensures list { IfOk result (λ v. map tree_of v.items ≡ children_left elements.entry) }
@@ -91,7 +91,7 @@ impl Container<Value> {
         Container { form: Form::Empty }
     }
 
-    /// Creates an array of this list. Takes no memory.
+    /// Creates an array with the elements of `list`. Takes no memory.
     pub fn from_list(list: Vec<Value>) -> Array
         ensures { result ≡ owned list }
     {
@@ -100,7 +100,7 @@ impl Container<Value> {
         }
     }
 
-    /// Returns the array as a value.
+    /// Returns the array as a [`Value`].
     pub fn into_value(self) -> Value
         ensures tree { tree_of result ≡ list (list_trees (list_in self)) }
         ensures value { result ≡ ArrayValue self }
@@ -108,8 +108,8 @@ impl Container<Value> {
         Value::Array(self)
     }
 
-    /// Returns how many more elements fit before the array allocates: 0 if nothing was put in yet,
-    /// and for a place of a document. Takes no memory.
+    /// Returns how many elements can be appended before the array allocates. That is 0 if it has no
+    /// owned list: if it is new, or packed in a document. Takes no memory.
     pub fn spare(&self) -> usize
         ensures { result ≡ spare_in self.now }
     {
@@ -119,7 +119,8 @@ impl Container<Value> {
         }
     }
 
-    /// Returns the owned list, or `None` exactly for a place of a document.
+    /// Returns the elements as a slice, or `None` if the array is packed in a document.
+    /// [`Array::view`] reads the elements in either case.
     pub fn list(&self) -> Option<&[Value]>
         ensures list { IfSome result (λ v. map tree_of v.now ≡ list_in self.now) }
         ensures items { IfSome result (λ v. v.now ≡ owned_items_of self.now) }
@@ -154,10 +155,11 @@ impl Container<Value> {
         Ok(())
     }
 
-    /// Returns the elements, to be changed. On a place of a document this is the first write: each
-    /// child becomes a value of its own, or a place of the same document, and nothing deeper is
-    /// copied. What is written through the list is what the array becomes. Fails with `NoMemory` if
-    /// memory runs out, which it can for a place of a document alone.
+    /// Returns a mutable reference to the list of the elements; what is written through it becomes
+    /// the array. A packed array is first copied by one level into a list of its own. In that list,
+    /// strings, numbers kept as literals, and containers that are not empty stay packed in the same
+    /// document. Fails with `NoMemory` if memory runs out, only for a packed array; the array is
+    /// then unchanged.
     pub fn list_mut(&mut self, alloc: Global) -> Result<&mut Vec<Value>>
         ensures* writes_back { sem 𝓛 (LendsIfOk array_row (vec_row value_row) self.entry result
             owned self.old) }
@@ -172,7 +174,8 @@ impl Container<Value> {
         Ok(self.form.owned())
     }
 
-    /// Returns the owned list, to be changed; the array must have one. Takes no memory.
+    /// Returns a mutable reference to the list of the elements, without a copy. The array must have
+    /// an owned list, as after [`Array::from_list`] or [`Array::list_mut`]. Takes no memory.
     pub fn owned_mut(&mut self) -> &mut Vec<Value>
         requires { OwnsList self.old }
         ensures* writes_back { sem 𝓛 (Lends array_row (vec_row value_row) self.entry result
@@ -182,7 +185,7 @@ impl Container<Value> {
         self.form.owned()
     }
 
-    /// Returns a view of the whole array.
+    /// Returns a read-only view of the whole array.
     #[inline]
     pub fn view(&self) -> ArrayView<'_>
         ensures trees { elements_seen result ≡ list_in self.now }
@@ -196,7 +199,8 @@ impl Container<Value> {
         ArrayView { form }
     }
 
-    /// Returns the compact text of the array's tree. Fails with `NoMemory` if memory runs out.
+    /// Returns the array as a compact JSON text, without whitespace between tokens. Fails with
+    /// `NoMemory` if memory runs out.
     pub fn to_string(&self, alloc: Global) -> Result<String>
         ensures ok { IfOk result (λ text.
             string_bytes text ≡ shown None 0 (list (list_trees (list_in self.now)))) }
@@ -207,8 +211,8 @@ impl Container<Value> {
         text_written(out)
     }
 
-    /// Returns an array of the same elements, which no later write to this one reaches; places stay
-    /// places of the same document. Fails with `NoMemory` if memory runs out.
+    /// Returns a copy of the array, which later writes to this one do not change. Packed parts stay
+    /// packed at the same positions of the same document. Fails with `NoMemory` if memory runs out.
     pub fn clone(&self, alloc: Global) -> Result<Array>
         ensures list { IfOk result (λ a. list_in a ≡ list_in self.now) }
         ensures places { IfOk result (λ a. array_places a ≡ array_places self.now) }
@@ -235,7 +239,7 @@ impl Container<Value> {
 impl Default for Container<Value> {
     ghost is_default = { λ a. (list_in a ≡ []) × (IsPlace a → ⊥) };
 
-    /// The array without elements. Takes no memory.
+    /// Returns an array without elements. Takes no memory.
     fn default() -> Array {
         Array::new()
     }

@@ -20,7 +20,8 @@ pub(crate) enum ArrayForm<'a> {
     Whole(&'a [Value]),
 }
 
-/// What is seen of an array. Nothing of a view takes memory.
+/// A read-only view of an array that is in a [`Value`] or in a packed document. It is a small
+/// reference that can be copied, and it takes no memory.
 ///
 /// ```
 /// use json_value::Value;
@@ -74,7 +75,7 @@ impl<'a> ArrayView<'a> {
         }
     }
 
-    /// Returns whether there is no element.
+    /// Returns whether the array has no elements.
     #[inline]
     pub fn is_empty(self) -> bool
         ensures { IsTrue result ↔ (elements_seen self.entry ≡ []) }
@@ -82,7 +83,8 @@ impl<'a> ArrayView<'a> {
         self.len() == 0
     }
 
-    /// Returns the element `i`, counted from 0, or `None` past the last.
+    /// Returns a view of the element `i`, counted from 0, or `None` if the array has no such
+    /// element.
     #[inline]
     pub fn get(self, i: usize) -> Option<View<'a>>
         ensures tree { option_map seen result ≡ slice_get (elements_seen self.entry) i }
@@ -94,7 +96,7 @@ impl<'a> ArrayView<'a> {
         }
     }
 
-    /// Returns the elements, in order.
+    /// Returns an iterator over views of the elements, from the first to the last.
     #[inline]
     pub fn iter(self) -> ArrayIter<'a>
         ensures trees { elements_left result ≡ elements_seen self.entry }
@@ -142,7 +144,7 @@ fn whole_element(values: &[Value], i: usize) -> Option<View<'_>>
     }
 }
 
-/// The elements of an array that are left, in order.
+/// An iterator over views of the elements of an array, in order. Created by [`ArrayView::iter`].
 ///
 /// ```
 /// use json_doc::read_document;
@@ -194,7 +196,7 @@ impl<'a> PackedElements<'a> {
 impl<'a> ElementsLeft<'a> {
     ghost use Rattle.json_value.specs.Left.{trees_to_come, remaining_targets};
 
-    // The elements of a place of a document; none where that is no array.
+    // Returns the elements of a packed array; none of another kind.
     #[inline]
     fn of_packed(packed: PackedView<'a>) -> ElementsLeft<'a>
         ensures trees { trees_to_come result ≡ elements (view_tree packed.entry.view) }
@@ -212,7 +214,7 @@ impl<'a> ElementsLeft<'a> {
 impl<'a> ArrayIter<'a> {
     ghost use Rattle.json_value.specs.Left.{elements_left};
 
-    /// Returns how many elements are left.
+    /// Returns the number of elements that are left.
     #[inline]
     pub fn len(&self) -> usize
         ensures { result ≡ length (elements_left self.now) }

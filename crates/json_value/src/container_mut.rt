@@ -39,7 +39,7 @@ pub(crate) fn type_unmatched_error() -> Error
     }
 }
 
-// What is an array or an object, if it is one.
+// What holds a value that may be an array or an object, and lends its elements or members.
 pub(crate) trait ContainerMut {
     ghost held: { Self → Value };
 
@@ -70,7 +70,7 @@ pub(crate) trait ContainerMut {
 }
 
 impl Value {
-    // Null becomes the object of this key with null.
+    // Turns null into an object with one member, `key` with null; any other value stays.
     fn open_with(&mut self, alloc: Global, key: &str) -> Result<()>
         ensures ok { OnOk result (tree_of self.new ≡ opened_with key.now (tree_of self.old)) }
         ensures made { OnOk result ((self.new ≡ self.old)
@@ -148,7 +148,8 @@ pub(crate) fn element_of<S: ContainerMut>(
     }
 }
 
-// The value of the first member of the key.
+// Returns the value of the first member named `key`, to be changed. Fails with `NotFound` or
+// `TypeUnmatched`.
 pub(crate) fn member_of<'s, S: ContainerMut>(
     container: &'s mut S,
     alloc: Global,
@@ -171,7 +172,7 @@ pub(crate) fn member_of<'s, S: ContainerMut>(
     }
 }
 
-// The place to which the step leads.
+// Returns the value to which the step `index` leads, to be changed.
 pub(crate) fn child_mut<'s, S: ContainerMut, I: Index>(
     container: &'s mut S,
     alloc: Global,
@@ -191,7 +192,7 @@ pub(crate) fn child_mut<'s, S: ContainerMut, I: Index>(
     }
 }
 
-// The same, of a step that is passed by value.
+// Returns what `child_mut` does, for a step that is passed by value.
 pub(crate) fn step_of<S: ContainerMut, I: Index>(
     container: &mut S,
     alloc: Global,
@@ -205,7 +206,8 @@ pub(crate) fn step_of<S: ContainerMut, I: Index>(
     child_mut(container, alloc, &index)
 }
 
-// The value of the first member of the key, or of a member with null that is appended.
+// Returns the value of the first member named `key`, to be changed; if there is none, it is
+// appended with null.
 fn key_value_mut<'s, S: ContainerMut>(
     container: &'s mut S,
     alloc: Global,
@@ -222,7 +224,8 @@ fn key_value_mut<'s, S: ContainerMut>(
     Ok(pair.value_mut())
 }
 
-// The value, put at the first member of the key, or at such a member that is appended.
+// Sets the value of the first member named `key`, or appends such a member, and returns that value,
+// to be changed.
 pub(crate) fn insert_of<'s, S: ContainerMut>(
     container: &'s mut S,
     alloc: Global,
@@ -241,7 +244,7 @@ pub(crate) fn insert_of<'s, S: ContainerMut>(
     Ok(place)
 }
 
-// Appends the element. Its index.
+// Appends the element and returns its index.
 fn push_last(list: &mut Vec<Value>, element: Value) -> Result<usize>
     ensures index { IfOk result (λ i. i ≡ length list.old.items) }
     ensures items { IfOk result (λ i. list.new.items ≡ list.old.items ++ element ∷ []) }
@@ -253,7 +256,7 @@ fn push_last(list: &mut Vec<Value>, element: Value) -> Result<usize>
     Ok(last)
 }
 
-// The element, appended.
+// Appends the element and returns it, to be changed.
 pub(crate) fn append_of<S: ContainerMut>(
     container: &mut S,
     alloc: Global,
@@ -271,7 +274,8 @@ pub(crate) fn append_of<S: ContainerMut>(
     Ok(&mut list[last])
 }
 
-// The same, where null counts as an empty object.
+// Returns the value of the first member named `key`, to be changed; if there is none, it is
+// appended with null. Null counts as an empty object.
 fn member_or_null<'s, S: ContainerMut>(
     container: &'s mut S,
     alloc: Global,
@@ -290,7 +294,8 @@ fn member_or_null<'s, S: ContainerMut>(
     Ok(pair.value_mut())
 }
 
-// The place to which the step leads; a key that is missing is appended with null.
+// Returns the value to which the step leads, to be changed; a key that is missing is appended with
+// null.
 pub(crate) fn place_or_insert<'s, S: ContainerMut, I: Index>(
     container: &'s mut S,
     alloc: Global,

@@ -27,10 +27,13 @@ use crate::view::View;
 use json_doc::JsonType;
 use json_number::Number;
 
-/// Scalars are equal where their content is, numbers by their literals; arrays element by element;
-/// and objects of as many members where the first values of each key are, in any order of the keys.
-/// Allocates nothing. Where the keys of two objects are in another order each is searched for from
-/// the left, so the time grows with the square of the members.
+/// Two values are equal if they are of one kind and equal in content. Numbers are compared by their
+/// literals, so 1 and 1.0 differ. Arrays are compared element by element. Objects are equal if they
+/// have as many members and the first values of each key are equal; the order of the keys is
+/// ignored.
+///
+/// Allocates nothing. If the keys of two objects are in different orders, the time grows with the
+/// square of the number of members.
 impl PartialEq for Value {
     ghost eq = { on tree_of same };
 
@@ -45,7 +48,7 @@ impl Eq for Value {
     ghost laws = { on_equiv tree_of same_equivalent };
 }
 
-/// As the arrays are equal as values.
+/// Two arrays are equal if they are equal as values: element by element, in order.
 impl PartialEq for Container<Value> {
     ghost eq = { on tree_of_array same };
 
@@ -60,7 +63,8 @@ impl Eq for Container<Value> {
     ghost laws = { on_equiv tree_of_array same_equivalent };
 }
 
-/// As the objects are equal as values.
+/// Two objects are equal if they are equal as values: with as many members and equal first values
+/// of each key, in any order of the keys.
 impl PartialEq for Container<Keyed<Value>> {
     ghost eq = { on tree_of_object same };
 
@@ -76,29 +80,29 @@ impl Eq for Container<Keyed<Value>> {
 }
 
 impl Value {
-    /// Returns whether this is the boolean.
+    /// Returns whether the value is the boolean `b`.
     pub fn eq_bool(&self, b: bool) -> bool
         ensures { result ≡ same (tree_of self.now) (boolean b) }
     {
         self.view().as_bool() == Some(b)
     }
 
-    /// Returns whether this is the integer.
+    /// Returns whether the value is the number `n`, written as an integer: 1.0 is not the number 1.
     pub fn eq_i64(&self, n: i64) -> bool
         ensures { result ≡ same (tree_of self.now) (num (signed_decimal n)) }
     {
         self.eq_number(Number::from(n))
     }
 
-    /// Returns whether this is the integer.
+    /// Returns whether the value is the number `n`, written as an integer: 1.0 is not the number 1.
     pub fn eq_u64(&self, n: u64) -> bool
         ensures { result ≡ same (tree_of self.now) (num (decimal n)) }
     {
         self.eq_number(Number::from(n))
     }
 
-    /// Returns whether this is a number whose nearest double equals `x`, by the equality of IEEE 754:
-    /// 0 equals -0, and a NaN nothing.
+    /// Returns whether the value is a number whose nearest `f64` equals `x`, as `==` compares: 0.0
+    /// equals -0.0, and nothing equals a NaN.
     pub fn eq_f64(&self, x: f64) -> bool
         ensures { result ≡ equals_double (double_in (tree_of self.now)) x }
     {
@@ -114,14 +118,14 @@ impl Value {
         self.view().as_number() == Some(number)
     }
 
-    /// Returns whether this is the string of these characters.
+    /// Returns whether the value is the string `s`.
     pub fn eq_str(&self, s: &str) -> bool
         ensures { result ≡ same (tree_of self.now) (text s.now) }
     {
         self.view().text() == Some(s)
     }
 
-    /// Returns whether this is the array of the same elements.
+    /// Returns whether the value is an array whose elements equal `items`, in order.
     pub fn eq_slice(&self, items: &[Value]) -> bool
         ensures { result ≡ same (tree_of self.now) (list (list_trees (map tree_of items.now))) }
     {
@@ -135,7 +139,7 @@ impl Value {
     }
 }
 
-// Whether the trees that are seen are the same.
+// Returns whether the viewed trees are the same.
 #[cycle(same)]
 pub(crate) fn are_same(first: View<'_>, second: View<'_>) -> bool
     ensures { result ≡ same (seen first.entry) (seen second.entry) }
@@ -224,9 +228,8 @@ pub(crate) fn are_objects_same(first: ObjectView<'_>, second: ObjectView<'_>) ->
     }
 }
 
-// Whether two objects of as many members are the same, where that shows member by member: the
-// answer is open where their keys differ at some place, or where values do after a key that was
-// there before.
+// Compares two objects of as many members, member by member. Returns `None` if that does not
+// decide: if keys differ at some index, or if values differ after a key that came before.
 #[cycle(same)]
 fn are_members_same(first: ObjectView<'_>, second: ObjectView<'_>) -> Option<bool>
     requires { length (members_seen first) ≡ length (members_seen second) }

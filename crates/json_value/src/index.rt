@@ -15,8 +15,9 @@ use crate::value::Value;
 use json_io::Result;
 use std::alloc::Global;
 
-/// A step into a value: a key leads to the first member of an object with that key, an index to an
-/// element of an array, counted from 0.
+/// A step into a value, as its methods take it: a key (`&str`) leads to the value of the first
+/// member of an object with that name, an index (`usize`) to an element of an array, counted from
+/// 0. A [`PointerNode`] is either.
 ///
 /// ```
 /// use json_value::{Index, Value};
@@ -27,23 +28,26 @@ use std::alloc::Global;
 /// assert_eq!(rt; ("a".as_key(), "a".as_index(), 0usize.as_index()), (Some("a"), None, Some(0)));
 /// ```
 pub trait Index: Drop {
-    /// The step.
+    /// The step from a value to one of its members or elements.
     ghost step: { Self → Step };
 
-    /// The key; none of an index.
+    /// Returns the key, or `None` if the step is an index.
     fn as_key(&self) -> Option<&str>
         ensures key { option_map (λ s. s.now) result ≡ key_in (step self.now) };
 
-    /// The index; none of a key.
+    /// Returns the index, or `None` if the step is a key.
     fn as_index(&self) -> Option<usize>
         ensures index { result ≡ index_in (step self.now) };
 
-    /// The place to which the step leads. A key that is missing is appended with null, and null
-    /// counts as an empty object. What is written there changes that place and no other; a packed
-    /// container is copied by one level. Fails with `NotFound` if the array has no such index, with
-    /// `TypeUnmatched` for an index of what is no array or a key of what is neither an object nor
-    /// null, and with `NoMemory` if memory runs out. A refusal keeps the tree, and copies no more
-    /// than that level.
+    /// Returns a mutable reference to the value in `v` to which the step leads. A key that is
+    /// missing is first appended with null, and if `v` is null it counts as an empty object. A
+    /// write through the reference changes that value and nothing else. A packed container is first
+    /// copied by one level.
+    ///
+    /// Fails with `NotFound` if the array has no such index. Fails with `TypeUnmatched` for an
+    /// index if `v` is no array, and for a key if it is neither an object nor null. Fails with
+    /// `NoMemory` if memory runs out. After an error nothing is changed, except that this copy may
+    /// have been made.
     final fn index_or_insert<'v>(&self, alloc: Global, v: &'v mut Value) -> Result<&'v mut Value>
         ensures* writes_back { sem 𝓛 (LendsSoOk value_row value_row v.entry result
             (λ n w. (put_or_insert (step self.now) (tree_of w) (tree_of v.old) ≡ Ok (tree_of n))

@@ -1,4 +1,4 @@
-// Laws of values.
+//! Laws of values: the contract of each function is a law, and the function does nothing.
 ghost use Rattle.json_grammar.specs.Proper.{IsProper};
 ghost use Rattle.json_value.specs.Denotes.{tree_of};
 ghost use Rattle.json_value.specs.Laws.{FirstElementsAreRead, FirstMembersAreRead, FirstElementsStay, FirstMembersStay};
@@ -8,27 +8,27 @@ ghost use Rattle.json_value.specs.Laws.{ChangeIsThere, ChangeRefusedThere, NoCha
 
 use crate::value::Value;
 
-/// The tree of each value is proper: its literals are numbers (RFC 8259, section 6), and its texts
-/// and keys UTF-8.
+/// Proves that the tree of each value is proper: its numbers are literals of RFC 8259, section 6,
+/// and its strings and keys are UTF-8.
 pub fn values_are_proper(_value: &Value)
     ensures { IsProper (tree_of _value.now) }
 {}
 
-/// The first write to a container that is a place of a document makes values that are read from the
-/// places of its children.
+/// Proves that the first write to a packed container makes the values that are read from the
+/// positions of its elements or members in the document.
 pub fn first_write_reads_places()
     ensures elements { FirstElementsAreRead }
     ensures members { FirstMembersAreRead }
 {}
 
-/// The first write to a container that is no place leaves its list.
+/// Proves that the first write to a container that is not packed leaves its list as it is.
 pub fn first_write_keeps_own_list()
     ensures elements { FirstElementsStay }
     ensures members { FirstMembersStay }
 {}
 
-/// A container that is a place of a document is at that place if it has elements or members, and no
-/// other container is a place.
+/// Proves that a packed container with elements or members has its position in the document, and
+/// that a container with a position is packed.
 pub fn packed_containers_have_positions()
     ensures array { PackedArrayHasPosition }
     ensures object { PackedObjectHasPosition }
@@ -36,8 +36,8 @@ pub fn packed_containers_have_positions()
     ensures object_only { PositionedObjectIsPlace }
 {}
 
-/// A container with a list of its own is no place of a document, and its parts are where those of
-/// its children are.
+/// Proves that a container with an owned list is not packed, and that the positions of its parts
+/// are those of the parts of its elements or members.
 pub fn own_lists_are_no_places()
     ensures array { OwnArrayIsNoPlace }
     ensures object { OwnObjectIsNoPlace }
@@ -45,9 +45,9 @@ pub fn own_lists_are_no_places()
     ensures members { PlacesOfMembers }
 {}
 
-/// A change where steps lead is one of the tree to which they lead: it is there afterwards, and is
-/// refused where that tree refuses it or where the steps lead nowhere. Steps lead where the
-/// definition of edits says that a path leads.
+/// Proves where a change along steps happens: the changed tree is found where the steps lead. The
+/// change is an error if the tree there refuses it, or if the steps lead nowhere. Steps lead where
+/// the definition of edits says that a path leads.
 pub fn changes_are_where_steps_lead()
     ensures there { ChangeIsThere }
     ensures refused { ChangeRefusedThere }

@@ -1,6 +1,6 @@
-//! Values of JSON (RFC 8259, section 3) that can be edited: scalars, owned texts and containers,
-//! and places of shared packed documents. The first write to a packed container copies one level of
-//! it.
+//! JSON values (RFC 8259, section 3) that can be read and edited. A [`Value`] owns its content, or
+//! is packed: then it refers to a position in a shared document, from which it is read. The first
+//! write to a packed array or object copies one level of it; deeper containers stay packed.
 //!
 //! ```
 //! use json_doc::read_document;

@@ -31,7 +31,8 @@ use json_layout::answered;
 use std::alloc::Global;
 use std::rc::Rc;
 
-/// An object (RFC 8259, section 4). Keys keep their order and may repeat.
+/// An object (RFC 8259, section 4): a [`Container`] of members. Keys keep their order and may
+/// repeat.
 ///
 /// ```
 /// use json_value::{Object, Pair, Text, Value};
@@ -44,7 +45,7 @@ use std::rc::Rc;
 /// ```
 pub type Object = Container<Pair>;
 
-// The members of a packed object, each with a key and a value of its own.
+// Returns the members of a packed object, each key and value read from its position.
 fn unpack_pairs(alloc: Global, place: &DocumentPosition) -> Result<Vec<Pair>>
     ensures pairs { IfOk result (λ v. map pair_of v.items ≡ members (place_tree place.now)) }
     ensures children { IfOk result (λ v. PlaceMembers place.now v.items) }
@@ -56,7 +57,7 @@ fn unpack_pairs(alloc: Global, place: &DocumentPosition) -> Result<Vec<Pair>>
     }
 }
 
-// Members of the document, each with a key and a value of its own.
+// Returns the members, each key and value read from its position in `doc`.
 fn unpack_members(alloc: Global, doc: &Rc<Doc>, mut members: DocPairs<'_>) -> Result<Vec<Pair>>
     requires { pairs_doc members ≡ doc.now.value }
     ensures pairs { IfOk result (λ v. map pair_of v.items ≡ pairs_left members.entry) }
@@ -101,7 +102,8 @@ impl Container<Keyed<Value>> {
         Container { form: Form::Empty }
     }
 
-    /// Creates an object of this list. Takes no memory.
+    /// Creates an object with the members of `pairs`, in their order; keys that repeat stay. Takes
+    /// no memory.
     pub fn from_list(pairs: Vec<Pair>) -> Object
         ensures { result ≡ owned pairs }
     {
@@ -110,7 +112,7 @@ impl Container<Keyed<Value>> {
         }
     }
 
-    /// Returns the object as a value.
+    /// Returns the object as a [`Value`].
     pub fn into_value(self) -> Value
         ensures tree { tree_of result ≡ pairs (list_pairs (pairs_in self)) }
         ensures value { result ≡ ObjectValue self }
@@ -118,8 +120,8 @@ impl Container<Keyed<Value>> {
         Value::Object(self)
     }
 
-    /// Returns how many more members fit before the object allocates: 0 if nothing was put in yet,
-    /// and for a place of a document. Takes no memory.
+    /// Returns how many members can be appended before the object allocates. That is 0 if it has no
+    /// owned list: if it is new, or packed in a document. Takes no memory.
     pub fn spare(&self) -> usize
         ensures { result ≡ spare_in self.now }
     {
@@ -129,7 +131,8 @@ impl Container<Keyed<Value>> {
         }
     }
 
-    /// Returns the owned members, or `None` exactly for a place of a document.
+    /// Returns the members as a slice, or `None` if the object is packed in a document.
+    /// [`Object::view`] reads the members in either case.
     pub fn pairs(&self) -> Option<&[Pair]>
         ensures pairs { IfSome result (λ v. map pair_of v.now ≡ pairs_in self.now) }
         ensures items { IfSome result (λ v. v.now ≡ owned_items_of self.now) }
@@ -164,11 +167,11 @@ impl Container<Keyed<Value>> {
         Ok(())
     }
 
-    /// Returns the members, to be changed. On a place of a document this is the first write: each
-    /// key becomes a place of the same document, each value a value of its own or a place of the
-    /// same document, and nothing deeper is copied. What is written through the list is what the
-    /// object becomes. Fails with `NoMemory` if memory runs out, which it can for a place of a
-    /// document alone.
+    /// Returns a mutable reference to the list of the members; what is written through it becomes
+    /// the object. A packed object is first copied by one level into a list of its own. In that
+    /// list, keys, strings, numbers kept as literals, and containers that are not empty stay packed
+    /// in the same document. Fails with `NoMemory` if memory runs out, only for a packed object;
+    /// the object is then unchanged.
     pub fn pairs_mut(&mut self, alloc: Global) -> Result<&mut Vec<Pair>>
         ensures* writes_back { sem 𝓛 (LendsIfOk object_row (vec_row pair_row) self.entry result
             owned self.old) }
@@ -183,7 +186,8 @@ impl Container<Keyed<Value>> {
         Ok(self.form.owned())
     }
 
-    /// Returns the owned list, to be changed; the object must have one. Takes no memory.
+    /// Returns a mutable reference to the list of the members, without a copy. The object must have
+    /// an owned list, as after [`Object::from_list`] or [`Object::pairs_mut`]. Takes no memory.
     pub fn owned_mut(&mut self) -> &mut Vec<Pair>
         requires { OwnsList self.old }
         ensures* writes_back { sem 𝓛 (Lends object_row (vec_row pair_row) self.entry result
@@ -193,7 +197,7 @@ impl Container<Keyed<Value>> {
         self.form.owned()
     }
 
-    /// Returns a view of the whole object.
+    /// Returns a read-only view of the whole object.
     #[inline]
     pub fn view(&self) -> ObjectView<'_>
         ensures trees { members_seen result ≡ pairs_in self.now }
@@ -207,7 +211,8 @@ impl Container<Keyed<Value>> {
         ObjectView { form }
     }
 
-    /// Returns the compact text of the object's tree. Fails with `NoMemory` if memory runs out.
+    /// Returns the object as a compact JSON text, without whitespace between tokens. Fails with
+    /// `NoMemory` if memory runs out.
     pub fn to_string(&self, alloc: Global) -> Result<String>
         ensures ok { IfOk result (λ text.
             string_bytes text ≡ shown None 0 (pairs (list_pairs (pairs_in self.now)))) }
@@ -218,8 +223,9 @@ impl Container<Keyed<Value>> {
         text_written(out)
     }
 
-    /// Returns an object of the same members, which no later write to this one reaches; places stay
-    /// places of the same document. Fails with `NoMemory` if memory runs out.
+    /// Returns a copy of the object, which later writes to this one do not change. Packed parts
+    /// stay packed at the same positions of the same document. Fails with `NoMemory` if memory runs
+    /// out.
     pub fn clone(&self, alloc: Global) -> Result<Object>
         ensures pairs { IfOk result (λ o. pairs_in o ≡ pairs_in self.now) }
         ensures places { IfOk result (λ o. object_places o ≡ object_places self.now) }
@@ -246,7 +252,7 @@ impl Container<Keyed<Value>> {
 impl Default for Container<Keyed<Value>> {
     ghost is_default = { λ o. (pairs_in o ≡ []) × (IsPlace o → ⊥) };
 
-    /// The object without members. Takes no memory.
+    /// Returns an object without members. Takes no memory.
     fn default() -> Object {
         Object::new()
     }

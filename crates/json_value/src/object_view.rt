@@ -21,7 +21,8 @@ pub(crate) enum ObjectForm<'a> {
     Whole(&'a [Pair]),
 }
 
-/// What is seen of an object. Keys keep their order and may repeat. Nothing of a view takes memory.
+/// A read-only view of an object that is in a [`Value`] or in a packed document. Members keep their
+/// order, and keys may repeat. It is a small reference that can be copied, and it takes no memory.
 ///
 /// ```
 /// use json_doc::read_document;
@@ -63,7 +64,7 @@ impl<'a> ObjectView<'a> {
         }
     }
 
-    /// Returns the number of members.
+    /// Returns the number of members. Members with equal keys are counted each.
     #[inline]
     pub fn len(self) -> usize
         ensures { result ≡ length (members_seen self.entry) }
@@ -74,7 +75,7 @@ impl<'a> ObjectView<'a> {
         }
     }
 
-    /// Returns whether there is no member.
+    /// Returns whether the object has no members.
     #[inline]
     pub fn is_empty(self) -> bool
         ensures { IsTrue result ↔ (members_seen self.entry ≡ []) }
@@ -82,7 +83,8 @@ impl<'a> ObjectView<'a> {
         self.len() == 0
     }
 
-    /// Returns the key and the value of the member `i`, counted from 0, or `None` past the last.
+    /// Returns the key and a view of the value of the member `i`, counted from 0, or `None` if the
+    /// object has no such member.
     #[inline]
     pub fn pair(self, i: usize) -> Option<(&'a str, View<'a>)>
         ensures tree { option_map member_seen result ≡ slice_get (members_seen self.entry) i }
@@ -94,7 +96,8 @@ impl<'a> ObjectView<'a> {
         }
     }
 
-    /// Returns the key and the value of the first member named `key`, or `None` if there is none.
+    /// Returns the key and a view of the value of the first member named `key`, or `None` if there
+    /// is none.
     pub fn get_key_value(self, key: &str) -> Option<(&'a str, View<'a>)>
         ensures tree { option_map member_seen result
             ≡ first_of key.now (members_seen self.entry) }
@@ -109,7 +112,7 @@ impl<'a> ObjectView<'a> {
         None
     }
 
-    /// Returns the value of the first member named `key`, or `None` if there is none.
+    /// Returns a view of the value of the first member named `key`, or `None` if there is none.
     pub fn get(self, key: &str) -> Option<View<'a>>
         ensures tree { option_map seen result ≡ option_map (λ p. p.1)
             (first_of key.now (members_seen self.entry)) }
@@ -122,7 +125,8 @@ impl<'a> ObjectView<'a> {
         }
     }
 
-    /// Returns the members, each its key and its value, in order.
+    /// Returns an iterator over the members, from the first to the last, each as its key and a view
+    /// of its value.
     #[inline]
     pub fn iter(self) -> Iter<'a>
         ensures trees { members_left result ≡ members_seen self.entry }
@@ -175,7 +179,8 @@ fn whole_pair(pairs: &[Pair], i: usize) -> Option<(&str, View<'_>)>
     }
 }
 
-/// The members of an object that are left, in order.
+/// An iterator over the members of an object, in order, each as its key and a view of its value.
+/// Created by [`ObjectView::iter`].
 ///
 /// ```
 /// use json_doc::read_document;
@@ -228,7 +233,7 @@ impl<'a> PackedMembers<'a> {
 impl<'a> MembersLeft<'a> {
     ghost use Rattle.json_value.specs.Left.{pairs_to_come, remaining_member_targets};
 
-    // The members of a place of a document; none where that is no object.
+    // Returns the members of a packed object; none of another kind.
     #[inline]
     fn of_packed(packed: PackedView<'a>) -> MembersLeft<'a>
         ensures trees { pairs_to_come result ≡ members (view_tree packed.entry.view) }
@@ -246,7 +251,7 @@ impl<'a> MembersLeft<'a> {
 impl<'a> Iter<'a> {
     ghost use Rattle.json_value.specs.Left.{members_left};
 
-    /// Returns how many members are left.
+    /// Returns the number of members that are left.
     #[inline]
     pub fn len(&self) -> usize
         ensures { result ≡ length (members_left self.now) }

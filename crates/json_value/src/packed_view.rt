@@ -31,7 +31,7 @@ impl<'a> PackedView<'a> {
     ghost use Rattle.json_value.specs.ViewTargets.{doc_held};
     ghost use Rattle.json_value.specs.ViewPositions.{held_position};
 
-    // A place of a document alone.
+    // Creates a view of a value in a document that no value holds.
     #[inline]
     pub(crate) fn of_document(view: DocView<'a>) -> PackedView<'a>
         ensures view { result.view ≡ view.entry }
@@ -40,7 +40,7 @@ impl<'a> PackedView<'a> {
         PackedView { view, holder: None }
     }
 
-    // A place that a value holds.
+    // Creates a view of the position that a value holds.
     #[inline]
     pub(crate) fn of_place(place: &'a DocumentPosition) -> PackedView<'a>
         ensures tree { view_tree result.view ≡ doc_tree place.now.doc.value place.now.at }
@@ -54,7 +54,7 @@ impl<'a> PackedView<'a> {
         }
     }
 
-    // Another place of the same document.
+    // Returns `view`, at another position of the same document, with the same holder.
     #[inline]
     pub(crate) fn beside(self, view: DocView<'a>) -> PackedView<'a>
         requires { view_doc view ≡ view_doc self.view }
@@ -67,7 +67,8 @@ impl<'a> PackedView<'a> {
         }
     }
 
-    // A value of the tree that is seen: of the same document, if a value holds it, else a copy.
+    // Returns what is viewed as a value: packed in the same document if a value holds it, else a
+    // copy.
     pub(crate) fn to_value(self, alloc: Global) -> Result<Value>
         ensures tree { IfOk result (λ v. tree_of v ≡ view_tree self.entry.view) }
         ensures position { IfOk result (λ v. doc_position v
@@ -114,7 +115,7 @@ fn copy_document(alloc: Global, view: DocView<'_>) -> Result<Value>
     }
 }
 
-// The elements, in a list with room for `count`.
+// Copies the elements into a list with room for `count`.
 #[cycle(copied)]
 fn copy_children(alloc: Global, children: DocChildren<'_>, count: usize) -> Result<Vec<Value>>
     ensures list { IfOk result (λ v. map tree_of v.items ≡ children_left children.entry) }
@@ -128,7 +129,7 @@ fn copy_children(alloc: Global, children: DocChildren<'_>, count: usize) -> Resu
     Ok(list)
 }
 
-// The members, in a list with room for `count`.
+// Copies the members into a list with room for `count`.
 #[cycle(copied)]
 fn copy_members(alloc: Global, members: DocPairs<'_>, count: usize) -> Result<Vec<Pair>>
     ensures pairs { IfOk result (λ v. map pair_of v.items ≡ pairs_left members.entry) }

@@ -18,7 +18,8 @@ use crate::value::Value;
 use json_io::Result;
 use std::alloc::Global;
 
-/// A key and what it names (RFC 8259, section 4). A `Pair` names a value.
+/// A key and the item that it names, as in a member of an object (RFC 8259, section 4). In a
+/// [`Pair`] the item is a value.
 ///
 /// ```
 /// use json_value::{Keyed, Text, Value};
@@ -34,7 +35,7 @@ pub struct Keyed<T> {
     pub(crate) value: T,
 }
 
-/// A member of an object: a key and a value.
+/// A member of an object: a key, which is its name, and a value.
 ///
 /// ```
 /// use json_value::{Pair, Text, Value};
@@ -47,7 +48,7 @@ pub struct Keyed<T> {
 pub type Pair = Keyed<Value>;
 
 impl Keyed<Value> {
-    /// Creates a member of this key and this value.
+    /// Creates a member with the name `key` and the value `value`. Takes no memory.
     pub fn new(key: Text, value: Value) -> Pair
         ensures pair { pair_of result ≡ (text_bytes key, tree_of value) }
         ensures member { result ≡ keyed_so key value }
@@ -55,14 +56,14 @@ impl Keyed<Value> {
         Keyed { key, value }
     }
 
-    /// Returns the key's characters.
+    /// Returns the characters of the key, unescaped.
     pub fn key(&self) -> &str
         ensures { result.now ≡ (pair_of self.now).0 }
     {
         self.key.as_str()
     }
 
-    /// Returns the value.
+    /// Returns the value of the member.
     pub fn value(&self) -> &Value
         ensures tree { tree_of result.now ≡ (pair_of self.now).1 }
         ensures value { result.now ≡ value_in self.now }
@@ -70,7 +71,8 @@ impl Keyed<Value> {
         &self.value
     }
 
-    /// Returns the value, to be changed. What is written there is the member's value.
+    /// Returns a mutable reference to the value of the member; what is written through it becomes
+    /// that value.
     pub fn value_mut(&mut self) -> &mut Value
         ensures* writes_back { sem 𝓛 (Lends pair_row value_row self.entry result
             (with_value self.old)) }
@@ -80,8 +82,8 @@ impl Keyed<Value> {
     }
 }
 
-/// Returns the index of the first member named `key` (RFC 8259, section 4: names may repeat), or
-/// `None` if there is none. Takes no memory.
+/// Returns the index of the first member in `pairs` named `key`, or `None` if there is none. Names
+/// may repeat (RFC 8259, section 4). Takes no memory.
 ///
 /// ```
 /// use json_value::{Pair, Text, Value, find_key};
@@ -132,7 +134,7 @@ pub(crate) fn insert_pair(
     }
 }
 
-// Puts the value of a pair at the first member of its key, or appends the pair.
+// Sets the value of the first member with the key of `pair`, or appends `pair`.
 pub(crate) fn put_pair(members: &mut Vec<Pair>, pair: Pair) -> Result<()>
     ensures ok { OnOk result (inserted (pair_of pair).0 (pair_of pair).1
         (list_pairs (map pair_of members.old.items)) ≡ list_pairs (map pair_of members.new.items)) }
@@ -176,7 +178,7 @@ pub(crate) fn find_or_insert(pairs: &mut Vec<Pair>, alloc: Global, key: &str) ->
     }
 }
 
-// Takes out all members of the key. False where there is none.
+// Removes all members named `key`. Returns whether there was one.
 pub(crate) fn remove_pairs(pairs: &mut Vec<Pair>, key: &str) -> bool
     ensures removed { IsTrue result
         → (has_key key.now (list_pairs (map pair_of pairs.old.items)) ≡ true)

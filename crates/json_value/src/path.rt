@@ -8,7 +8,7 @@ use crate::value::Value;
 use json_io::Result;
 use std::alloc::Global;
 
-/// A step into a value.
+/// A step of a [`Path`]: from an array or an object to one of its elements or members.
 ///
 /// ```
 /// use json_doc::read_document;
@@ -21,13 +21,14 @@ use std::alloc::Global;
 /// ```
 #[derive(Drop)]
 pub enum PointerNode {
-    /// To the first member of an object with this key.
+    /// From an object to the value of its first member with this key.
     Key(Text),
-    /// To an element of an array, counted from 0.
+    /// From an array to its element with this index, counted from 0.
     Index(usize),
 }
 
-/// Steps from a value to a place within it. No steps lead to the value itself.
+/// The steps from a value to one within it, one level each. A path without steps leads to the value
+/// itself.
 ///
 /// ```
 /// use json_value::{Path, PointerNode, Value};
@@ -42,8 +43,9 @@ pub struct Path {
     pub(crate) steps: Vec<PointerNode>,
 }
 
-/// A change of a value, at the place to which a path leads. One that does not apply is refused and
-/// changes nothing.
+/// A change of a value, to be made by [`Value::apply`]. `path` leads from that value to the one
+/// within it that is changed. If the change cannot be made there, `apply` fails and the content of
+/// the value is unchanged.
 ///
 /// ```
 /// use json_text::ErrorCode;
@@ -57,18 +59,21 @@ pub struct Path {
 /// ```
 #[derive(Drop)]
 pub enum Edit {
-    /// Puts a value at the place.
+    /// Replaces the value at the end of `path` by `value`.
     Set { path: Path, value: Value },
-    /// Puts a value at the first member of the key there, or appends such a member.
+    /// In the object at the end of `path`, sets the value of the first member named `key`, or
+    /// appends such a member.
     Insert { path: Path, key: Text, value: Value },
-    /// Appends an element there.
+    /// Appends `value` to the array at the end of `path`.
     Push { path: Path, value: Value },
-    /// Takes out all members of a key there, or the element of an index.
+    /// Removes what `step` names in the value at the end of `path`: all members with a key, or the
+    /// element with an index.
     Remove { path: Path, step: PointerNode },
 }
 
 impl Path {
-    /// Creates a path without steps. Takes no memory.
+    /// Creates a path without steps, whose list of steps allocates with `alloc`. Takes no memory
+    /// yet.
     pub fn new(alloc: Global) -> Path
         ensures { path_steps result ≡ [] }
     {
@@ -77,7 +82,8 @@ impl Path {
         }
     }
 
-    /// Appends a step. Fails with `NoMemory` if memory runs out; the path is then unchanged.
+    /// Appends `step` to the path. Fails with `NoMemory` if memory runs out; the path is then
+    /// unchanged.
     pub fn push(&mut self, step: PointerNode) -> Result<()>
         ensures ok { OnOk result (path_steps self.new
             ≡ path_steps self.old ++ step_of step ∷ []) }
@@ -88,7 +94,7 @@ impl Path {
         Ok(())
     }
 
-    /// Returns the steps, from the first on.
+    /// Returns the steps of the path, in order.
     pub fn steps(&self) -> &[PointerNode]
         ensures { steps_of result.now ≡ path_steps self.now }
     {
@@ -97,7 +103,7 @@ impl Path {
 }
 
 impl Edit {
-    /// Returns the path to the place of the change.
+    /// Returns the path of the edit, which leads to the value that is changed.
     pub fn path(&self) -> &Path
         ensures edit { edit_of self.now ≡ edit_at (path_steps result.now) self.now }
         ensures steps { path_steps result.now ≡ edit_path self.now }

@@ -18,7 +18,7 @@ use crate::value::Value;
 use json_io::{ErrorCode, Result};
 use std::alloc::Global;
 
-/// What has places to which paths lead, and lends them to be changed.
+/// Lends mutable references to a value and to the values within it. [`Value`] implements it.
 ///
 /// ```
 /// use json_doc::read_document;
@@ -30,14 +30,17 @@ use std::alloc::Global;
 /// assert_eq!(rt; value.to_string(alloc)?.as_str(), "[null,[[1]]]");
 /// ```
 pub trait Places {
-    /// The value whose places are lent.
+    /// The value to which, and within which, references are lent.
     ghost held: { Self → Value };
 
-    /// The place to which the steps lead. What is written there changes that place and no other; a
-    /// copy of one level is made of each packed container on the way. Fails with `NotFound` if a
-    /// step names a key or an index that is missing, with `TypeUnmatched` if a key meets no object
-    /// or an index no array, and with `NoMemory` if memory runs out. A refusal keeps the tree, and
-    /// changes nothing but that packed containers on the way may have been copied by one level.
+    /// Returns a mutable reference to the value to which the steps of `path` lead; without steps it
+    /// is the whole value. A write through it changes that value and nothing else. Packed
+    /// containers on the way are copied by one level each.
+    ///
+    /// Fails with `NotFound` if a step names a key or an index that is missing. Fails with
+    /// `TypeUnmatched` if a key meets no object or an index no array. Fails with `NoMemory` if
+    /// memory runs out. After an error nothing is changed, except that such copies may have been
+    /// made.
     fn place_mut<'v>(&'v mut self, alloc: Global, path: &[PointerNode]) -> Result<&'v mut Value>
         ensures* writes_back { sem 𝓛 (LendsSoOk Self.row value_row self.entry result
             (λ n w. IfOk result (λ v. PutsAtPath (steps_of path.now) v.now w (held self.old)
@@ -54,8 +57,9 @@ impl Places for Value {
     }
 }
 
-/// Puts a value at the place to which the steps lead. Fails as `place_mut` does. A refusal keeps
-/// the tree.
+/// Replaces the value in `target` to which the steps of `path` lead by `new`. Fails as
+/// [`Places::place_mut`] does. After an error nothing is changed, except that packed containers on
+/// the way may have been copied by one level each.
 pub fn put<V: Places>(target: &mut V, alloc: Global, path: &[PointerNode], new: Value) -> Result<()>
     ensures ok { OnOk result (Makes (edited_once (set_at (steps_of path.now) (tree_of new))
         (tree_of (V.held target.old))) (V.held target.new)) }
@@ -72,8 +76,9 @@ pub fn put<V: Places>(target: &mut V, alloc: Global, path: &[PointerNode], new: 
     Ok(())
 }
 
-/// Changes the value to which the steps lead, by a closure. Fails as `place_mut` does. A refusal
-/// keeps the tree.
+/// Calls `change` with a mutable reference to the value in `target` to which the steps of `path`
+/// lead. Fails as [`Places::place_mut`] does; `change` is not called then. After an error nothing
+/// is changed, except that packed containers on the way may have been copied by one level each.
 pub fn update<V: Places, F: FnOnce(&mut Value)>(
     target: &mut V,
     alloc: Global,
@@ -109,7 +114,7 @@ fn untaken(path: &[PointerNode]) -> &[PointerNode]
     &path[1..]
 }
 
-// The place to which the first step of a path leads.
+// Returns the value to which the first step of `path` leads, to be changed.
 fn first_place<'v, S: ContainerMut>(
     container: &'v mut S,
     alloc: Global,
@@ -126,7 +131,7 @@ fn first_place<'v, S: ContainerMut>(
     child_mut(container, alloc, &path[0])
 }
 
-// The place to which a path leads.
+// Returns the value to which the steps of `path` lead, to be changed.
 pub(crate) fn reach_in<'v>(
     value: &'v mut Value,
     alloc: Global,
@@ -144,8 +149,8 @@ pub(crate) fn reach_in<'v>(
     }
 }
 
-// A place that is lent, or none where a call found none; only `NoMemory` stays an error. So a
-// search that answers `NotFound` or `TypeUnmatched` becomes one that answers none.
+// Turns every error but `NoMemory` into `None`, so that a search that fails with `NotFound` or
+// `TypeUnmatched` returns `None`.
 pub(crate) fn none_if_missing<'a>(r: Result<&'a mut Value>) -> Result<Option<&'a mut Value>>
     ensures missing_as_none { result ≡ missing_as_none r.entry }
 {

@@ -14,7 +14,7 @@ use json_doc_print::internal::{show_bool, show_elements, show_members, show_numb
 use json_io::{Sink, SinkError, SinkResult};
 use json_layout::{BufferedWriter, Layout, show_piece, show_text};
 
-/// Writes the text of the value's tree, with `level` containers around it.
+/// Writes the value's text inside `level` containers.
 #[cycle(shown_value)]
 pub(crate) fn show_value<W: Sink, L: Layout>(
     value: &Value,
@@ -45,7 +45,7 @@ pub(crate) fn show_value<W: Sink, L: Layout>(
     }
 }
 
-// A key, and what is written before it and after it.
+// Writes a key, what separates it from the member before it, and the colon after it.
 pub(crate) fn show_key<W: Sink, L: Layout>(
     key: &Text,
     layout: L,
@@ -62,7 +62,7 @@ pub(crate) fn show_key<W: Sink, L: Layout>(
     layout.colon(out)
 }
 
-// An element, and what is written before it.
+// Writes an element and the separator and the whitespace before it.
 #[cycle(shown_value)]
 fn show_owned_element<W: Sink, L: Layout>(
     value: &Value,
@@ -80,7 +80,7 @@ fn show_owned_element<W: Sink, L: Layout>(
     show_value(value, layout, level, out)
 }
 
-// An array of these elements.
+// Writes an array of these elements.
 #[cycle(shown_value)]
 pub(crate) fn show_values<W: Sink, L: Layout>(
     values: &Vec<Value>,
@@ -104,7 +104,7 @@ pub(crate) fn show_values<W: Sink, L: Layout>(
     layout.close(out, level, first, b']')
 }
 
-// An object of these members.
+// Writes an object of these members.
 #[cycle(shown_value)]
 pub(crate) fn show_owned_pairs<W: Sink, L: Layout>(
     values: &Vec<Pair>,

@@ -19,7 +19,8 @@ use json_doc_print::internal::{
 use json_io::{Sink, SinkError, SinkResult};
 use json_layout::{BufferedWriter, Layout, show_piece, show_text};
 
-/// Writes the text of the value's tree, sorted, with `level` containers around it.
+/// Writes the value's text inside `level` containers, with the members of each object sorted by
+/// their keys.
 #[cycle(shown_sorted_value)]
 pub(crate) fn show_sorted_value<W: Sink, L: Layout>(
     value: &Value,
@@ -50,7 +51,7 @@ pub(crate) fn show_sorted_value<W: Sink, L: Layout>(
     }
 }
 
-// An element, and what is written before it.
+// Writes an element, sorted, and the separator and the whitespace before it.
 #[cycle(shown_sorted_value)]
 fn show_sorted_item<W: Sink, L: Layout>(
     value: &Value,
@@ -68,7 +69,7 @@ fn show_sorted_item<W: Sink, L: Layout>(
     show_sorted_value(value, layout, level, out)
 }
 
-// An array of these elements.
+// Writes an array of these elements, each sorted.
 #[cycle(shown_sorted_value)]
 fn show_sorted_values<W: Sink, L: Layout>(
     values: &Vec<Value>,
@@ -93,7 +94,7 @@ fn show_sorted_values<W: Sink, L: Layout>(
     layout.inner.close(out, level, first, b']')
 }
 
-// An object of these members.
+// Writes an object of these members, sorted by their keys.
 #[cycle(shown_sorted_value)]
 fn show_sorted_pairs<W: Sink, L: Layout>(
     values: &Vec<Pair>,
@@ -113,7 +114,7 @@ fn show_sorted_pairs<W: Sink, L: Layout>(
     }
 }
 
-// An object whose keys are in order.
+// Writes an object whose keys are in order.
 #[cycle(shown_sorted_value)]
 fn show_in_place<W: Sink, L: Layout>(
     values: &Vec<Pair>,
@@ -140,7 +141,7 @@ fn show_in_place<W: Sink, L: Layout>(
     layout.inner.close(out, level, first, b'}')
 }
 
-// An object, by an index of its members.
+// Writes an object whose keys are not in order, by a sorted index of its members.
 #[cycle(shown_sorted_value)]
 fn show_by_numbers<W: Sink, L: Layout>(
     values: &Vec<Pair>,

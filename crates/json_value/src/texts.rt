@@ -15,7 +15,8 @@ use json_io::{Result, Sink, SinkResult, VecSink, flush_all};
 use json_layout::{BufferedWriter, OneLine, show_piece};
 use std::alloc::Global;
 
-/// A writer into memory that has gained nothing.
+/// Creates a buffered writer into memory, to which nothing has been written. Fails with `NoMemory`
+/// if memory runs out.
 pub(crate) fn text_writer(alloc: Global) -> Result<BufferedWriter<VecSink>>
     ensures starts { IfOk result (λ out. ⟦<BufferedWriter<VecSink> as Sink>⟧.state out
         ≡ record { gained = Some []; faults = 0; lacks = 0; unflushed = false; loan = None }) }
@@ -25,7 +26,8 @@ pub(crate) fn text_writer(alloc: Global) -> Result<BufferedWriter<VecSink>>
     BufferedWriter::new(alloc, sink)
 }
 
-/// What the writer has gained, as a text.
+/// Returns all that was written to `out`, which must be UTF-8, as a string. Fails with `NoMemory`
+/// if memory runs out.
 pub(crate) fn text_written(out: BufferedWriter<VecSink>) -> Result<String>
     requires { IfSome (⟦<BufferedWriter<VecSink> as Sink>⟧.state out).gained IsUtf8 }
     ensures ok { IfOk result (λ text.

@@ -50,11 +50,12 @@ use std::alloc::Global;
 pub(crate) enum ViewForm<'a> {
     Packed(PackedView<'a>),
     Whole(&'a Value),
-    // Null, which is at no place.
+    // Null that is in no value and no document.
     Absent,
 }
 
-/// What is seen of a value, or of a place of a packed document. Nothing of a view takes memory.
+/// A read-only view of a [`Value`], of a value within one, or of a value in a packed document. It
+/// is a small reference that can be copied, and it takes no memory.
 ///
 /// ```
 /// use json_doc::read_document;
@@ -71,7 +72,7 @@ pub struct View<'a> {
 }
 
 impl<'a> View<'a> {
-    /// Creates a view of a place of a document.
+    /// Creates a view of the value that `view` shows in a packed document.
     #[inline]
     pub fn packed(view: DocView<'a>) -> View<'a>
         ensures tree { seen result ≡ view_tree view.entry }
@@ -86,7 +87,7 @@ impl<'a> View<'a> {
         }
     }
 
-    /// Returns the kind of the value.
+    /// Returns the kind of the value: null, boolean, number, string, array or object.
     #[inline]
     pub fn get_type(self) -> JsonType
         ensures { result ≡ type_of (seen self.entry) }
@@ -98,7 +99,7 @@ impl<'a> View<'a> {
         }
     }
 
-    /// Returns the boolean, or `None` of another kind.
+    /// Returns the boolean, or `None` if the value is of another kind.
     #[inline]
     pub fn as_bool(self) -> Option<bool>
         ensures { result ≡ bool_of (seen self.entry) }
@@ -110,8 +111,8 @@ impl<'a> View<'a> {
         }
     }
 
-    /// Returns the number if it is an integer of `u64` or `i64`, or `None` of another number and of
-    /// another kind.
+    /// Returns the number if it is an integer of `u64` or `i64`, or `None` for any other number and
+    /// for a value of another kind.
     #[inline]
     pub fn as_number(self) -> Option<Number>
         ensures value { option_map value_of result ≡ integer_in_tree (seen self.entry) }
@@ -124,8 +125,8 @@ impl<'a> View<'a> {
         }
     }
 
-    /// Returns the literal of a number that is no integer of `u64` or `i64`, or `None` of such an
-    /// integer and of another kind.
+    /// Returns the literal, as it was written, of a number that is no integer of `u64` or `i64`.
+    /// Returns `None` for such an integer and for a value of another kind.
     #[inline]
     pub fn literal(self) -> Option<&'a str>
         ensures { option_map (λ s. s.now) result ≡ literal_of (seen self.entry) }
@@ -137,8 +138,8 @@ impl<'a> View<'a> {
         }
     }
 
-    /// Returns the double nearest to the number, of two that are equally near the even one, where
-    /// that is finite; `None` of another number, and of another kind.
+    /// Returns the `f64` nearest to the number, with ties to even. Returns `None` if that is not
+    /// finite, or if the value is of another kind.
     ///
     /// ```
     /// use json_doc::read_document;
@@ -157,7 +158,7 @@ impl<'a> View<'a> {
         }
     }
 
-    /// Returns the text of the string, or `None` of another kind.
+    /// Returns the characters of the string, unescaped, or `None` if the value is of another kind.
     #[inline]
     pub fn text(self) -> Option<&'a str>
         ensures { option_map (λ s. s.now) result ≡ string_of (seen self.entry) }
@@ -169,7 +170,7 @@ impl<'a> View<'a> {
         }
     }
 
-    /// Returns the array, or `None` of another kind.
+    /// Returns a view of the array, or `None` if the value is of another kind.
     #[inline]
     pub fn as_array(self) -> Option<ArrayView<'a>>
         ensures trees { option_map elements_seen result ≡ list_of (seen self.entry) }
@@ -182,7 +183,7 @@ impl<'a> View<'a> {
         }
     }
 
-    /// Returns the object, or `None` of another kind.
+    /// Returns a view of the object, or `None` if the value is of another kind.
     #[inline]
     pub fn as_object(self) -> Option<ObjectView<'a>>
         ensures trees { option_map members_seen result ≡ object_pairs (seen self.entry) }
@@ -195,7 +196,7 @@ impl<'a> View<'a> {
         }
     }
 
-    // Null, which is at no place.
+    // Returns a view of null, which is at no position.
     fn null() -> View<'a>
         ensures tree { seen result ≡ null }
         ensures target { view_target result ≡ nowhere }
@@ -227,8 +228,9 @@ impl<'a> View<'a> {
         }
     }
 
-    /// Returns the value of the first member of a key, or the element of an index, or `None` if
-    /// there is none.
+    /// Returns a view of the value of the first member named `index`, or of the element at `index`,
+    /// counted from 0, or `None` if there is none. `index` is a `&str`, a `usize` or a
+    /// [`PointerNode`].
     pub fn get<I: Index>(self, index: I) -> Option<View<'a>>
         ensures tree { option_map seen result ≡ child (I.step index) (seen self.entry) }
         ensures target { option_map view_target result
@@ -243,7 +245,9 @@ impl<'a> View<'a> {
         }
     }
 
-    /// Returns the value at the end of the steps, or `None` if one of them leads nowhere.
+    /// Returns a view of the value to which the steps of `path` lead, one after another; without
+    /// steps that is the value itself. Returns `None` if a step names a member or an element that
+    /// is not there.
     pub fn pointer(self, path: &[PointerNode]) -> Option<View<'a>>
         ensures tree { option_map seen result ≡ tree_at (steps_of path.now) (seen self.entry) }
         ensures target { option_map view_target result
@@ -256,8 +260,9 @@ impl<'a> View<'a> {
         Some(here)
     }
 
-    /// Returns the value of the first member of a key, or the element of an index, or null if there
-    /// is none.
+    /// Returns a view of the value of the first member named `index`, or of the element at `index`,
+    /// counted from 0, or a view of null if there is none. `index` is a `&str`, a `usize` or a
+    /// [`PointerNode`].
     pub fn at<I: Index>(self, index: I) -> View<'a>
         ensures tree { seen result ≡ tree_or_null (child (I.step index) (seen self.entry)) }
         ensures target { view_target result
@@ -269,8 +274,8 @@ impl<'a> View<'a> {
         }
     }
 
-    /// Returns the document and the place in it if what is seen is a place of a document, or a
-    /// value that is one, else `None`. The value at that place is what is seen.
+    /// Returns the document in which the value is packed and the position there, the index of a
+    /// cell. Returns `None` if the value is not packed.
     pub fn place(self) -> Option<(&'a Doc, u32)>
         ensures position { option_map (λ p. position_in p.0.now p.1) result ≡ view_position self.entry }
         ensures within { IfSome result (λ p. p.1 < length (doc_cells p.0.now)) }
@@ -283,9 +288,10 @@ impl<'a> View<'a> {
         }
     }
 
-    /// Returns a value of the tree that is seen, which no later write to a value that is seen
-    /// reaches: of a whole value a `clone`, of a packed part of a value the value at that place of
-    /// the same document, of a document alone a copy. Fails with `NoMemory` if memory runs out.
+    /// Returns a copy of what is viewed as a [`Value`], which later writes to the original do not
+    /// change. A view of a whole value is cloned. A packed part of a value stays packed in the same
+    /// document. A view made by [`View::packed`] is copied whole, as a value of its own. Fails with
+    /// `NoMemory` if memory runs out.
     pub fn to_value(self, alloc: Global) -> Result<Value>
         ensures tree { IfOk result (λ v. tree_of v ≡ seen self.entry) }
         ensures position { IfOk result (λ v. doc_position v ≡ view_value_position self.entry) }
@@ -300,9 +306,10 @@ impl<'a> View<'a> {
         }
     }
 
-    /// Gives the tokens of the tree that is seen to `out`, an integer by value as that, up to the
-    /// first that meets an error, which is returned. Where the events had returned an error it is
-    /// returned again, and nothing changes; else a value has to be allowed there.
+    /// Writes the tokens of the value to `out`, integers of `u64` or `i64` by value and other
+    /// numbers as literals. Stops at the first error of `out` and returns it. If `out` had failed
+    /// before the call, returns that error again and writes nothing; otherwise a value must be
+    /// allowed as the next token of `out`.
     pub fn emit<E: Events>(self, out: &mut E) -> Result<()>
         requires { AcceptsValue (E.failed out.old) (E.token_state (E.state out.old)) }
         ensures given { Emits E.after E.stopped (E.state out.old) (E.state out.new)
@@ -316,9 +323,10 @@ impl<'a> View<'a> {
         }
     }
 
-    /// Writes the text of the tree that is seen, in the layout. Fails as the writer's inner sink
-    /// does; a prefix of the text was written then. Fails with `NoMemory` where the sink finds
-    /// none, or for a text of 2^64 - 1 bytes or more.
+    /// Writes the value as a JSON text to `out`, with the whitespace of `layout` between tokens. If
+    /// the sink inside `out` fails, returns its error. Fails with `NoMemory` only if memory runs
+    /// out in that sink, or for a text of 2^64 - 1 bytes or more. After an error a prefix of the
+    /// text was written.
     pub fn print<W: Sink, L: Layout>(self, layout: L, out: &mut BufferedWriter<W>) -> Result<()>
         ensures text { WritesText (⟦<BufferedWriter<W> as Sink>⟧.state out.old)
             (⟦<BufferedWriter<W> as Sink>⟧.state out.new)
@@ -331,11 +339,11 @@ impl<'a> View<'a> {
         answered(show(self, layout, out))
     }
 
-    /// Writes the text of the tree that is seen, with the members of each object in the order of
-    /// their keys and those of one key in the order of the text, in the layout. Allocates for an
-    /// object whose keys are not in order: 16 bytes a member, until its end was written. Fails as
-    /// `print` does, and with `NoMemory` where memory runs out; a prefix of the text was written
-    /// then.
+    /// Writes the value as [`View::print`] does, but sorts the members of each object by the bytes
+    /// of their keys; members with equal keys keep their order. For an object whose keys are not in
+    /// order it allocates 16 bytes a member, until the end of that object is written. Fails as
+    /// [`View::print`] does, and with `NoMemory` if memory runs out. After an error a prefix of the
+    /// text was written.
     pub fn print_sorted<W: Sink, L: Layout>(
         self,
         alloc: Global,

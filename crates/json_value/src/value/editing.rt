@@ -109,11 +109,13 @@ impl Value {
         }
     }
 
-    /// Changes the value by the edit. Fails with `NotFound` if a step of the path or of a removal
-    /// names a key or an index that is missing, with `TypeUnmatched` if a key step, an insertion or
-    /// the removal of a key meets no object, or an index step, a push or the removal of an index no
-    /// array, and with `NoMemory` if memory runs out. A refusal keeps the tree, and changes nothing
-    /// but that a packed container on the way may have been copied by one level.
+    /// Changes the value as `edit` says, where the edit's path leads; the value in the edit is
+    /// cloned. Fails with `NotFound` if a step of the path, or the step of a removal, names a key
+    /// or an index that is missing. Fails with `TypeUnmatched` if a key or an insertion meets no
+    /// object, or if an index or a push meets no array. Fails with `NoMemory` if memory runs out.
+    ///
+    /// After an error nothing is changed, except that packed containers on the way may have been
+    /// copied by one level each.
     pub fn apply(&mut self, alloc: Global, edit: &Edit) -> Result<()>
         ensures ok { OnOk result (Makes (edited_once (edit_of edit.now) (tree_of self.old))
             self.new) }

@@ -24,7 +24,7 @@ use crate::value::Value;
 use json_io::{ErrorCode, Result};
 use std::alloc::Global;
 
-// An array, or none where there was no array; only want of memory stays an error.
+// Turns every error but `NoMemory` into `None`: there was no array to lend.
 fn none_if_no_array<'a>(r: Result<&'a mut Array>) -> Result<Option<&'a mut Array>>
     ensures missing_as_none { result ≡ missing_as_none r.entry }
 {
@@ -37,7 +37,7 @@ fn none_if_no_array<'a>(r: Result<&'a mut Array>) -> Result<Option<&'a mut Array
     }
 }
 
-// The same of an object.
+// Turns every error but `NoMemory` into `None`: there was no object to lend.
 fn none_if_no_object<'a>(r: Result<&'a mut Object>) -> Result<Option<&'a mut Object>>
     ensures missing_as_none { result ≡ missing_as_none r.entry }
 {
@@ -51,10 +51,13 @@ fn none_if_no_object<'a>(r: Result<&'a mut Object>) -> Result<Option<&'a mut Obj
 }
 
 impl Value {
-    /// Returns the place to which the steps lead, to be changed, or `None` if they lead nowhere.
-    /// What is written there changes that place and no other; a copy of one level is made of each
-    /// packed container on the way, and `None` or an error changes nothing else. Fails with
-    /// `NoMemory` if memory runs out.
+    /// Returns a mutable reference to the value to which the steps of `path` lead, or `None` if a
+    /// step names a member or an element that is not there. Without steps it is the whole value. A
+    /// write through it changes that value and nothing else.
+    ///
+    /// Packed containers on the way are copied by one level each. Fails with `NoMemory` if memory
+    /// runs out. After `None` or an error nothing is changed, except that such copies may have been
+    /// made.
     pub fn reach(&mut self, alloc: Global, path: &[PointerNode]) -> Result<Option<&mut Value>>
         ensures* writes_back { sem 𝓛 (LendsPlace self.entry result
             (λ x w n. PutsAtPath (steps_of path.now) x w self.old n)
@@ -66,10 +69,12 @@ impl Value {
         none_if_missing(reach_in(self, alloc, path))
     }
 
-    /// Returns the place to which the step leads, to be changed, or `None` if it leads nowhere.
-    /// What is written there changes that place and no other; a packed container is copied by one
-    /// level, and `None` or an error changes nothing else. Fails with `NoMemory` if memory runs
-    /// out.
+    /// Returns a mutable reference to the value of the first member named `index`, or to the
+    /// element at `index`, counted from 0, or `None` if there is none. `index` is a `&str`, a
+    /// `usize` or a [`PointerNode`]. A write through it changes that value and nothing else.
+    ///
+    /// A packed container is first copied by one level. Fails with `NoMemory` if memory runs out.
+    /// After `None` or an error nothing is changed, except that this copy may have been made.
     pub fn step_mut<I: Index>(&mut self, alloc: Global, index: I) -> Result<Option<&mut Value>>
         ensures* writes_back { sem 𝓛 (LendsPlace self.entry result
             (λ x w n. PutsAtPath (I.step index ∷ []) x w self.old n)
@@ -81,9 +86,9 @@ impl Value {
         none_if_missing(step_of(self, alloc, index))
     }
 
-    /// Appends the value to the array, and lends its place. The value must be an array; a packed
-    /// one is copied by one level. A refusal keeps the tree, and copies no more than that level.
-    /// Fails with `NoMemory` if memory runs out.
+    /// Appends `val` to the array and returns a mutable reference to the new element. The value
+    /// must be an array; a packed one is first copied by one level. Fails with `NoMemory` if memory
+    /// runs out. Then nothing is changed, except that this copy may have been made.
     pub fn append_value(&mut self, alloc: Global, val: Value) -> Result<&mut Value>
         requires { type_of (tree_of self.old) ≡ JsonType.Array }
         ensures* writes_back { sem 𝓛 (LendsSoOk value_row value_row self.entry result
@@ -94,9 +99,10 @@ impl Value {
         append_of(self, alloc, val)
     }
 
-    /// Puts the value at the first member of the key, or appends such a member, and lends its
-    /// place. The value must be an object; a packed one is copied by one level. A refusal keeps the
-    /// tree, and copies no more than that level. Fails with `NoMemory` if memory runs out.
+    /// Sets the value of the first member named `key` to `val`, or appends such a member if there
+    /// is none, and returns a mutable reference to the member's value. The value must be an object;
+    /// a packed one is first copied by one level. Fails with `NoMemory` if memory runs out. Then
+    /// nothing is changed, except that this copy may have been made.
     pub fn insert(&mut self, alloc: Global, key: &str, val: Value) -> Result<&mut Value>
         requires { type_of (tree_of self.old) ≡ JsonType.Object }
         ensures* writes_back { sem 𝓛 (LendsSoOk value_row value_row self.entry result
@@ -107,7 +113,7 @@ impl Value {
         insert_of(self, alloc, key, val)
     }
 
-    // The array with an owned list.
+    // Returns the array, which then has an owned list. Fails with `TypeUnmatched` for another kind.
     fn array_open(&mut self, alloc: Global) -> Result<&mut Array>
         ensures* writes_back { sem 𝓛 (LendsSoOk value_row array_row self.entry result
             (λ n w. (tree_of n ≡ list (list_trees (list_in w))) × (n ≡ ArrayValue w))
@@ -123,7 +129,8 @@ impl Value {
         }
     }
 
-    // The object with an owned list.
+    // Returns the object, which then has an owned list. Fails with `TypeUnmatched` for another
+    // kind.
     fn object_open(&mut self, alloc: Global) -> Result<&mut Object>
         ensures* writes_back { sem 𝓛 (LendsSoOk value_row object_row self.entry result
             (λ n w. (tree_of n ≡ pairs (list_pairs (pairs_in w))) × (n ≡ ObjectValue w))
@@ -140,9 +147,10 @@ impl Value {
         }
     }
 
-    /// Returns the array, to be changed, or `None` exactly for another kind. What is written there
-    /// is the array that the value then is. A packed array is copied by one level. `None` or an
-    /// error changes nothing. Fails with `NoMemory` if memory runs out.
+    /// Returns a mutable reference to the array that the value is, or `None` if it is of another
+    /// kind. What is written through it becomes the value's array. A packed array is first copied
+    /// by one level. Fails with `NoMemory` if memory runs out. `None` and an error leave the value
+    /// as it was.
     pub fn as_array_mut(&mut self, alloc: Global) -> Result<Option<&mut Array>>
         ensures* writes_back { sem 𝓛 (LendsPart value_row array_row self.entry result
             (λ n w. (tree_of n ≡ list (list_trees (list_in w))) × (n ≡ ArrayValue w))
@@ -155,9 +163,10 @@ impl Value {
         none_if_no_array(self.array_open(alloc))
     }
 
-    /// Returns the object, to be changed, or `None` exactly for another kind. What is written there
-    /// is the object that the value then is. A packed object is copied by one level. `None` or an
-    /// error changes nothing. Fails with `NoMemory` if memory runs out.
+    /// Returns a mutable reference to the object that the value is, or `None` if it is of another
+    /// kind. What is written through it becomes the value's object. A packed object is first copied
+    /// by one level. Fails with `NoMemory` if memory runs out. `None` and an error leave the value
+    /// as it was.
     pub fn as_object_mut(&mut self, alloc: Global) -> Result<Option<&mut Object>>
         ensures* writes_back { sem 𝓛 (LendsPart value_row object_row self.entry result
             (λ n w. (tree_of n ≡ pairs (list_pairs (pairs_in w))) × (n ≡ ObjectValue w))

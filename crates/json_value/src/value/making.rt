@@ -30,43 +30,44 @@ use json_number::{Number, RawNumber};
 use std::alloc::Global;
 
 impl Value {
-    /// Creates null. Takes no memory.
+    /// Creates the value null. Takes no memory.
     pub fn new() -> Value
         ensures { tree_of result ≡ null }
     {
         Value::Null
     }
 
-    /// Creates null. Takes no memory.
+    /// Creates the value null. Takes no memory.
     pub fn new_null() -> Value
         ensures { tree_of result ≡ null }
     {
         Value::Null
     }
 
-    /// Creates a boolean. Takes no memory.
+    /// Creates the boolean `val`. Takes no memory.
     pub fn new_bool(val: bool) -> Value
         ensures { tree_of result ≡ boolean val }
     {
         Value::Bool(val)
     }
 
-    /// Creates an integer. Takes no memory.
+    /// Creates the number `val`. Takes no memory.
     pub fn new_u64(val: u64) -> Value
         ensures { tree_of result ≡ num (decimal val) }
     {
         Value::Number(Number::from(val))
     }
 
-    /// Creates an integer. Takes no memory.
+    /// Creates the number `val`. Takes no memory.
     pub fn new_i64(val: i64) -> Value
         ensures { tree_of result ≡ num (signed_decimal val) }
     {
         Value::Number(Number::from(val))
     }
 
-    /// Returns the double as a number, whose nearest double it is, also -0: `None` for a NaN and an
-    /// infinity. Fails with `NoMemory` if memory runs out.
+    /// Creates a number whose nearest `f64` is `val`; the sign of zero is kept. Returns `None` for
+    /// a NaN or an infinity, which no JSON number denotes (RFC 8259, section 6). Fails with
+    /// `NoMemory` if memory runs out.
     ///
     /// ```
     /// use json_value::Value;
@@ -86,8 +87,9 @@ impl Value {
         }
     }
 
-    /// Returns the double as a number, as `new_f64` does, and null for a NaN and an infinity. Fails
-    /// with `NoMemory` if memory runs out.
+    /// Creates a number whose nearest `f64` is `val`; the sign of zero is kept. Returns null for a
+    /// NaN or an infinity, which no JSON number denotes (RFC 8259, section 6). Fails with
+    /// `NoMemory` if memory runs out.
     ///
     /// ```
     /// use json_value::Value;
@@ -106,15 +108,15 @@ impl Value {
         }
     }
 
-    /// Creates a number. Takes no memory.
+    /// Creates a number from the integer `n`. Takes no memory.
     pub fn from_number(n: Number) -> Value
         ensures { tree_of result ≡ num (text_of_number n) }
     {
         Value::Number(n)
     }
 
-    /// Creates a number: by value if it is an integer of `u64` or `i64`, else as its literal. Takes
-    /// no memory.
+    /// Creates a number from the literal `n`. One that is an integer of `u64` or `i64` is kept by
+    /// value, any other as its literal. Takes no memory.
     pub fn from_raw_number(n: RawNumber) -> Value
         ensures tree { tree_of result ≡ num (raw_literal n) }
         ensures places { places_in result ≡ None ∷ [] }
@@ -141,7 +143,7 @@ impl Value {
         Value::Object(Container { form: Form::Empty })
     }
 
-    /// Creates a string from a static one. Takes no memory.
+    /// Creates the string `val`, which is not copied. Takes no memory.
     pub fn from_static_str(val: &'static str) -> Value
         ensures tree { tree_of result ≡ text val.now }
         ensures places { places_in result ≡ None ∷ [] }
@@ -149,7 +151,7 @@ impl Value {
         Value::Text(Text::from_static(val))
     }
 
-    /// Creates an array of these elements. Takes no memory.
+    /// Creates an array with the elements `items`. Takes no memory.
     pub fn from_vec(items: Vec<Value>) -> Value
         ensures tree { tree_of result ≡ list (list_trees (map tree_of items.items)) }
         ensures value { result ≡ ArrayValue (owned items) }
@@ -159,7 +161,7 @@ impl Value {
         })
     }
 
-    /// Creates a string of these characters, of its own. Fails with `NoMemory` if memory runs out.
+    /// Creates a string with a copy of `val`. Fails with `NoMemory` if memory runs out.
     pub fn copy_str(alloc: Global, val: &str) -> Result<Value>
         ensures tree { IfOk result (λ v. tree_of v ≡ text val.now) }
         ensures places { IfOk result (λ v. places_in v ≡ None ∷ []) }
@@ -169,7 +171,7 @@ impl Value {
         Ok(Value::Text(copied))
     }
 
-    /// Returns the value, or null for `None`. Takes no memory.
+    /// Returns the value in `v`, or null for `None`. Takes no memory.
     pub fn from_option(v: Option<Value>) -> Value
         ensures tree { tree_of result ≡ tree_or_null (option_map tree_of v) }
         ensures value { result ≡ unwrap_or v Null }
@@ -180,15 +182,15 @@ impl Value {
         }
     }
 
-    /// Creates null. Takes no memory.
+    /// Creates the value null, for the unit `()`. Takes no memory.
     pub fn from_unit() -> Value
         ensures { tree_of result ≡ null }
     {
         Value::Null
     }
 
-    /// Creates a string of these characters, of its own: nothing is parsed. Fails with `NoMemory`
-    /// if memory runs out.
+    /// Creates a string with a copy of `val`, as [`Value::copy_str`] does. `val` is not parsed as a
+    /// JSON text. Fails with `NoMemory` if memory runs out.
     pub fn from_str(alloc: Global, val: &str) -> Result<Value>
         ensures tree { IfOk result (λ v. tree_of v ≡ text val.now) }
         ensures places { IfOk result (λ v. places_in v ≡ None ∷ []) }
@@ -197,7 +199,7 @@ impl Value {
         Value::copy_str(alloc, val)
     }
 
-    /// Creates a string of this character. Fails with `NoMemory` if memory runs out.
+    /// Creates a string of the single character `c`. Fails with `NoMemory` if memory runs out.
     pub fn from_char(alloc: Global, c: char) -> Result<Value>
         ensures tree { IfOk result (λ v. tree_of v ≡ text (encode_utf8 c)) }
         ensures places { IfOk result (λ v. places_in v ≡ None ∷ []) }
@@ -210,8 +212,8 @@ impl Value {
         }))
     }
 
-    /// Creates an array without elements, which takes `capacity` of them before it allocates again.
-    /// Fails with `NoMemory` if memory runs out.
+    /// Creates an array without elements, with room for at least `capacity` elements before it
+    /// allocates again. Fails with `NoMemory` if memory runs out.
     pub fn new_array_with(alloc: Global, capacity: usize) -> Result<Value>
         ensures tree { IfOk result (λ v. tree_of v ≡ list no_trees) }
         ensures no_place { IfOk result (λ v. ContainerIsPlace v → ⊥) }
@@ -224,8 +226,8 @@ impl Value {
         }))
     }
 
-    /// Creates an object without members, which takes `capacity` of them before it allocates again.
-    /// Fails with `NoMemory` if memory runs out.
+    /// Creates an object without members, with room for at least `capacity` members before it
+    /// allocates again. Fails with `NoMemory` if memory runs out.
     pub fn new_object_with(alloc: Global, capacity: usize) -> Result<Value>
         ensures tree { IfOk result (λ v. tree_of v ≡ object no_pairs) }
         ensures no_place { IfOk result (λ v. ContainerIsPlace v → ⊥) }
@@ -238,7 +240,8 @@ impl Value {
         }))
     }
 
-    /// Creates an array of clones of the items. Fails with `NoMemory` if memory runs out.
+    /// Creates an array of clones of `items`; packed ones stay packed in the same document. Fails
+    /// with `NoMemory` if memory runs out.
     pub fn from_slice_of(alloc: Global, items: &[Value]) -> Result<Value>
         ensures tree { IfOk result (λ v. tree_of v ≡ list (list_trees (map tree_of items.now))) }
         ensures places { IfOk result (IsArrayOf (λ vs. map places_in vs
@@ -252,9 +255,9 @@ impl Value {
         Ok(Value::from_vec(copies))
     }
 
-    /// Creates an object into which the pairs are put in turn, from the first on: a pair whose key
-    /// is there gives the member its value, another is appended. Fails with `NoMemory` if memory
-    /// runs out.
+    /// Creates an object by inserting `pairs` one after another, from the first on. A pair with a
+    /// new key is appended; one whose key is already there sets the value of that member. Fails
+    /// with `NoMemory` if memory runs out.
     pub fn from_pairs(alloc: Global, pairs: Vec<Pair>) -> Result<Value>
         ensures tree { IfOk result (λ v. tree_of v
             ≡ object (inserted_all (map pair_of pairs.items) no_pairs)) }
