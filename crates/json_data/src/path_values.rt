@@ -14,7 +14,7 @@ use json_tokens::error_without_place;
 use json_value::{ArrayView, Path, PointerNode, Text, View};
 use std::alloc::Global;
 
-/// The refusal of a value that spells something else.
+/// Returns the error of a value that is no step, path or edit.
 pub(crate) fn unspelled() -> Error
     ensures { result ≡ spec_refusal ErrorCode.TypeUnmatched }
 {
@@ -28,7 +28,7 @@ fn read_index(number: Number) -> Option<u32>
     u32::try_from(number.as_u64()?).ok()
 }
 
-/// The step that is seen: a key or an index.
+/// Reads a step of a path: a string is a key, and an integer is an index.
 pub(crate) fn read_step(alloc: Global, view: View<'_>) -> Result<PointerNode>
     ensures ok { IfOk result (λ s. step_in (seen view.entry) ≡ Some (step_of s)) }
     ensures err { IfErr result (Unspelled (step_in (seen view.entry))) }
@@ -59,7 +59,7 @@ fn read_steps(alloc: Global, array: ArrayView<'_>) -> Result<Path>
     Ok(path)
 }
 
-/// The path that is seen: an array of steps.
+/// Reads a path: an array of steps.
 pub(crate) fn read_path(alloc: Global, view: View<'_>) -> Result<Path>
     ensures ok { IfOk result (λ p. path_in (seen view.entry) ≡ Some (path_steps p)) }
     ensures err { IfErr result (Unspelled (path_in (seen view.entry))) }
