@@ -263,12 +263,12 @@ impl Events for ValueBuilder {
     }
 }
 
-/// Returns the value of the datum's tree, with each repeated key, at every object, at its first
-/// place with its last value.
+/// Returns the `Value` that `value` is written as. If an object has a key more than once, the last
+/// of its values counts, at the place of the first.
 ///
-/// Fails with `NumberOutOfRange` exactly if an integer that is no key lies outside `i64` and `u64`,
-/// and with `SerExpectKeyIsStrOrNum` exactly if a key has no text; if both are there, the first
-/// from the left decides. Fails with `NoMemory` if memory runs out.
+/// Fails with `NumberOutOfRange` if an integer that is no key lies outside both `i64` and `u64`,
+/// and with `SerExpectKeyIsStrOrNum` if a key has no text; the first of these from the left
+/// decides. Fails with `NoMemory` if memory runs out, and in no other case.
 pub fn to_value<T: Serialize>(alloc: Global, value: &T) -> Result<Value>
     ensures ok { IfOk result (λ v.
         option_map merged (datum_tree (T.datum value.now)) ≡ Some (tree_of v)) }
