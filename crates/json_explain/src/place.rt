@@ -138,8 +138,8 @@ fn value_start(event: Event<'_>, end: usize) -> Option<usize>
     }
 }
 
-/// Returns the offset in bytes of the value to which a path leads in a text of at most `depth`
-/// levels.
+/// Returns the offset in bytes at which the value begins to which a path leads. The text has at
+/// most `depth` levels.
 pub(crate) fn offset_at_path(text: &str, depth: u32, steps: &[Step]) -> Option<usize>
     requires { depth ≤ 1024 }
     ensures { (t v : Tree) (xs : List Tok) → is_text false t text.now → depth_of t ≤ depth
