@@ -37,8 +37,8 @@ fn place_in_input(repaired: &Repaired, place: Place) -> Place
     }
 }
 
-/// Returns an error of the text that is read as it is reported: the same, at its place in the
-/// input.
+/// Returns an error of the text with its place in the input, which is another one if the text was
+/// repaired.
 pub(crate) fn at_input_place(repaired: Option<&Repaired>, error: Error) -> Error
     requires { IfSome repaired (λ r. PlaceIsWithin r.now.text error.place) }
     ensures { result ≡ record error {
