@@ -21,7 +21,7 @@ use json_value::{Value, View};
 use std::alloc::Global;
 use std::mem;
 
-/// The tokens of a value. Its calls fail with no error but `NoMemory`.
+/// The tokens of a `Value`, given as a view of it. Its calls fail with `NoMemory` alone.
 ///
 /// ```
 /// use json_tokens::{Token, Tokens, ValueTokens};
@@ -45,7 +45,8 @@ pub struct ValueTokens<'a> {
 }
 
 impl<'a> ValueTokens<'a> {
-    /// Creates a source at the beginning of the value.
+    /// Creates a source at the beginning of the value that `view` shows. `alloc` is for the list of
+    /// open arrays and objects.
     pub fn new(alloc: Global, view: View<'a>) -> ValueTokens<'a>
         ensures state { value_state result ≡ at_begin (seen view.entry) }
         ensures target { next_target result.next result.inner ≡ Some (view_target view.entry) }
