@@ -22,7 +22,7 @@ use std::str::from_utf8_unchecked;
 /// assert_eq!(rt; piece.copy(alloc)?.as_str(), "Ada");
 /// ```
 pub struct Piece<S: InputStr> {
-    /// The characters between the quotes, as they are in the input.
+    /// The characters between the quotes, as the source has them.
     pub text: S,
     /// `None` if the text has no escapes. Otherwise whether they are read in the lossy mode, in
     /// which the escape of a surrogate that is alone is U+FFFD (RFC 8259, section 8.2).
