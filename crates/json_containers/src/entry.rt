@@ -76,7 +76,7 @@ pub struct VacantEntry<'a> {
     ghost reserved: { 0 < spare_in object.now },
 }
 
-// The value of the member at the index.
+// Returns the value of the member at the index, to be changed.
 fn value_mut_at(object: &mut Object, at: usize) -> &mut Value
     requires { at < length (own_members object.old) }
     ensures* writes_back { sem 𝓛 (Lends object_row value_row object.entry result

@@ -24,7 +24,7 @@ const MOST: usize = 4_294_967_295;
 /// 9).
 const LEVELS: u32 = 254;
 
-// More bytes than a text may have.
+// Returns the error of an input with more bytes than a text may have.
 fn too_large_error() -> Error
     ensures { result ≡ spec_too_large }
 {
@@ -34,7 +34,7 @@ fn too_large_error() -> Error
     }
 }
 
-// The bytes as a text.
+// Returns the bytes as a text. Fails if they are too many or not UTF-8.
 fn utf8_text(json: &[u8]) -> Result<&str>
     ensures same { IfOk result (λ text. text.now ≡ json.now) }
     ensures valid { IfOk result (λ _. IsUtf8 json.now) }
@@ -126,8 +126,8 @@ pub fn from_slice_unchecked<'a, T: Deserialize<'a> + Drop>(
     from_str(alloc, unsafe { from_utf8_unchecked(json) })
 }
 
-// The value of a text in which the names of each object have to differ. They are compared in a pass
-// of its own, which packs a document.
+// Reads a value from a text in which the names of each object have to differ. They are compared in
+// a pass of its own, which packs a document.
 fn read_unique<'a, T: Deserialize<'a> + Drop>(
     alloc: Global,
     text: &'a str,

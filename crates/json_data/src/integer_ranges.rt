@@ -255,7 +255,7 @@ pub(crate) fn read_between<S: InputStr, T: Tokens<S>>(
     negative_or_by_kind(tokens, low, high)
 }
 
-/// An integer from 0 on, of at most 128 bits.
+/// Returns the integer if it is at least 0 and has at most 128 bits.
 pub(crate) fn fit_unsigned(whole: IntegerLiteral) -> Result<u128>
     ensures ok { (o : Option ℤ) → IsIntegerLiteral o whole → IfOk result (λ n. o ≡ Some (pos n)) }
     ensures within { IfOk result (λ n. n < 2 ^ 128) }

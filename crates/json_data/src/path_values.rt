@@ -21,7 +21,7 @@ pub(crate) fn unspelled() -> Error
     error_without_place(ErrorCode::TypeUnmatched)
 }
 
-// The index that an integer is; none below 0, and from 2^32 on.
+// Returns the integer as an index, or `None` if it is below 0 or at least 2^32.
 fn read_index(number: Number) -> Option<u32>
     ensures { result ≡ index_of (value_of number) }
 {
@@ -45,7 +45,7 @@ pub(crate) fn read_step(alloc: Global, view: View<'_>) -> Result<PointerNode>
     Err(unspelled())
 }
 
-// The path of which the elements are the steps.
+// Reads a path whose steps are the elements of the array.
 fn read_steps(alloc: Global, array: ArrayView<'_>) -> Result<Path>
     ensures ok { IfOk result (λ p.
         each_in step_in (elements_seen array.entry) ≡ Some (path_steps p)) }

@@ -32,7 +32,7 @@ const MOST: usize = 4_294_967_295;
 /// 9).
 const LEVELS: u32 = 254;
 
-// Where the value of a text is refused, if it is. Fails if memory runs out.
+// Returns where the value of a text is refused, or `None` if it is not. Fails if memory runs out.
 fn refusal_of<'a, T: Explain<&'a str>>(
     alloc: Global,
     text: &'a str,
@@ -51,7 +51,7 @@ fn refusal_of<'a, T: Explain<&'a str>>(
     }
 }
 
-// An error with the refusal that explains it, and with the place of the value that is refused.
+// Returns an explanation of `error` with its refusal and the place of the value that is refused.
 fn explained_at(text: &str, depth: u32, error: Error, refusal: Refusal) -> Explanation
     requires { depth ≤ 1024 }
     ensures error { result.error ≡ error }
@@ -78,7 +78,7 @@ fn explained_at(text: &str, depth: u32, error: Error, refusal: Refusal) -> Expla
     }
 }
 
-// An error with what explains it, or that memory ran out.
+// Returns an explanation of `error`, or that memory ran out.
 fn explained<'a, T: Explain<&'a str>>(
     alloc: Global,
     text: &'a str,
@@ -100,7 +100,7 @@ fn explained<'a, T: Explain<&'a str>>(
     }
 }
 
-// The same of the bytes of a text.
+// Returns an explanation of an error in the bytes of a text, or that memory ran out.
 fn explained_bytes<'a, T: Explain<&'a str>>(
     alloc: Global,
     json: &'a [u8],
@@ -280,7 +280,7 @@ pub fn from_value<'a, T: Explain<&'a str>>(
     }
 }
 
-// An error of a value with what explains it, or that memory ran out.
+// Returns an explanation of an error of a value, or that memory ran out.
 fn explained_value<'a, T: Explain<&'a str>>(
     alloc: Global,
     value: &'a Value,

@@ -82,7 +82,7 @@ pub trait ExplainMembers<S: InputStr>: Sized {
         ensures { option_map (λ s. s.now) result ≡ reading.missing (seen self.now) };
 }
 
-// The refusal of an object in which a member of that name is missing, if there is a name. Fails if
+// Returns the refusal of an object in which a member is missing, or `None` if none is. Fails if
 // memory runs out.
 fn lacking(alloc: Global, member: Option<&str>) -> Result<Option<Refusal>>
     ensures ok { IfOk result (λ o. refused_in o ≡ option_map (λ s. lacks_member s.now) member.entry) }
@@ -97,14 +97,15 @@ fn lacking(alloc: Global, member: Option<&str>) -> Result<Option<Refusal>>
     }
 }
 
-// The refusal of a whole value of the kind `found_type` that is no container of the kind that is wanted.
+// Returns the refusal of a whole value of the type `found_type`, where another type was wanted.
 pub(crate) fn mismatch(alloc: Global, wanted: Wanted, found_type: JsonType) -> Refusal
     ensures { refused_of result ≡ refused_here TypeUnmatched None (Some wanted) found_type }
 {
     Refusal::here(alloc, ErrorCode::TypeUnmatched, wanted, found_type)
 }
 
-// The refusal of a part, as seen from the container, whose rest is taken.
+// Takes what is left of the innermost open container, and returns the refusal of a part of it as
+// seen from the container.
 pub(crate) fn leave_within<S: InputStr, T: Tokens<S>>(
     tokens: &mut T,
     refused: Refusal,
@@ -126,7 +127,7 @@ pub(crate) fn leave_within<S: InputStr, T: Tokens<S>>(
     }
 }
 
-// What is left of an array whose beginning was taken.
+// Explains the elements of an array whose beginning was taken, and takes its end.
 fn explain_elements<S: InputStr, V: Explain<S>, T: Tokens<S>>(
     alloc: Global,
     tokens: &mut T,
@@ -164,7 +165,7 @@ fn explain_elements<S: InputStr, V: Explain<S>, T: Tokens<S>>(
     }
 }
 
-// What is left of an object whose beginning was taken.
+// Explains the members of an object whose beginning was taken, and takes its end.
 fn explain_rest<S: InputStr, M: ExplainMembers<S>, T: Tokens<S>>(
     alloc: Global,
     members: &mut M,

@@ -27,7 +27,7 @@ pub struct Explanation {
 }
 
 impl Explanation {
-    // That of an error that is no refusal.
+    // Creates the explanation of an error that refuses no value.
     pub(crate) fn plain(error: Error) -> Explanation
         ensures error { result.error ≡ error }
         ensures refusal { result.refusal ≡ None }
@@ -98,7 +98,7 @@ impl Explanation {
     }
 }
 
-// What was found.
+// Returns the words for the type that was found.
 fn found_text(found_type: JsonType) -> &'static str {
     match found_type {
         JsonType::Null => "null",

@@ -88,7 +88,7 @@ pub enum Wanted {
 }
 
 impl Wanted {
-    // The text of it.
+    // Returns the phrase that is displayed.
     fn text(self) -> &'static str {
         match self {
             Wanted::Null => "null",

@@ -52,7 +52,7 @@ pub(crate) fn read_ahead<'a>(parser: &mut Parser<'a>) -> std::result::Result<Eve
 }
 
 impl<'a> Ahead<'a> {
-    /// An event with the kind of its token.
+    /// Creates the event that is ahead, with the kind of its token.
     #[inline(always)]
     pub(crate) fn new(event: Event<'a>) -> Ahead<'a>
         requires { EventIsNumber event }

@@ -73,7 +73,7 @@ impl<'a> ValueTokens<'a> {
         }
     }
 
-    // Memory ran out.
+    // Notes that memory ran out, and returns that error.
     fn exhaust(&mut self) -> Error
         ensures error { result ≡ no_memory }
         ensures failed { value_state self.new ≡ record (value_state self.old) { failed = true } }
@@ -82,7 +82,7 @@ impl<'a> ValueTokens<'a> {
         error_without_place(ErrorCode::NoMemory)
     }
 
-    // Goes from the next value into what is left of it.
+    // Takes the first token of the next value, an array or object: what is left of it is `level`.
     fn enter(&mut self, level: Level<'a>) -> Result<()>
         ensures ok { let s = value_state self.old in OnOk result (value_state self.new
             ≡ record s {
@@ -104,7 +104,7 @@ impl<'a> ValueTokens<'a> {
         }
     }
 
-    // Goes on after the innermost container.
+    // Leaves the innermost open array or object.
     fn exit(&mut self)
         ensures state { let s = value_state self.old in (l : Left) (ls : List Left)
             → s.levels ≡ l ∷ ls

@@ -32,7 +32,7 @@ pub(crate) struct ValueBuilder {
     failed: Option<Error>,
 }
 
-// An integer lies outside `i64` and `u64`.
+// Returns the error of an integer that lies outside `i64` and `u64`.
 fn out_of_range_error() -> Error
     ensures { result ≡ out_of_range }
 {
@@ -81,7 +81,7 @@ impl ValueBuilder {
         }
     }
 
-    // A value more.
+    // Adds a value to the innermost open container.
     fn place(&mut self, value: Value) -> Result<()>
         ensures { Builds (value_added (tree_of value)) StopsMemory self.old self.new
             (given null_token) result }
@@ -99,7 +99,7 @@ impl ValueBuilder {
         }
     }
 
-    // Keeps an error.
+    // Keeps an error, and returns it.
     fn refuse(&mut self, error: Error) -> Result<()>
         ensures err { IsErr result }
         ensures takes { Builds build_after (StopsAs error) self.old self.new
@@ -170,7 +170,7 @@ impl ValueBuilder {
         }
     }
 
-    // The root.
+    // Returns the value that was built.
     fn into_value(self) -> Value
         ensures { (t : Tree) → (build_of self).work.top ≡ frame_take (new_frame array) t
             → tree_of result ≡ t }

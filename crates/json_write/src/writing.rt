@@ -13,7 +13,8 @@ use json_io::{LentSink, Result, Sink};
 use json_print::{CompactFormatter, Formatter, PrettyFormatter, Serializer};
 use std::alloc::Global;
 
-// The text by the calls of a formatter that has written nothing. Gives the writer back.
+// Writes the text of the value to the writer, by a formatter that has written nothing. Returns the
+// writer.
 fn formatted<W: Sink, T: Serialize, F: Formatter + Drop>(
     alloc: Global,
     value: &T,
