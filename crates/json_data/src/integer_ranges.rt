@@ -16,7 +16,7 @@ use json_io::{ErrorCode, Result};
 use json_number::{Integer, IntegerLiteral, Number, integer_literal};
 use json_tokens::{InputStr, Token, TokenKind, Tokens, error_without_place};
 
-/// Returns what an integer of 64 bits is as the literal of an integer.
+/// Returns a number of 64 bits as an `IntegerLiteral`.
 #[inline(always)]
 pub(crate) fn whole_of_number(n: Number) -> IntegerLiteral
     ensures { (o : Option ℤ) → o ≡ Some (value_of n) → IsIntegerLiteral o result }
@@ -60,7 +60,7 @@ pub(crate) fn next_raw<S: InputStr, T: Tokens<S>>(tokens: &mut T) -> Result<S>
     }
 }
 
-/// Takes the next tree and returns what integer it is, if it is one.
+/// Takes the next value, and returns which integer it is, if it is one.
 #[inline(always)]
 pub(crate) fn read_whole<S: InputStr, T: Tokens<S>>(tokens: &mut T) -> Result<IntegerLiteral>
     requires { WantsValue (T.state tokens.old) }
@@ -164,7 +164,7 @@ pub(crate) fn signed_at_once<S: InputStr, T: Tokens<S>>(tokens: &mut T, half: u6
     }
 }
 
-/// Returns the greatest magnitude that is at most `low` and at most 2^63.
+/// Returns a magnitude that is at most `low` and at most 2^63.
 #[inline(always)]
 fn least_of(low: u128) -> u64
     ensures { (result ≤ low) × (result ≤ 2 ^ 63) }

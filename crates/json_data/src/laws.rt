@@ -44,8 +44,8 @@ pub fn reads_integer_as_double()
     ensures { ReadsIntegerAsDouble }
 {}
 
-/// Returns the number of a finite double, which is read as the same double again, also for -0.
-/// Fails with `NoMemory` if memory runs out.
+/// Returns the number of `x` if `x` is finite. Its contract shows that reading the number returns
+/// `x` again, also for -0. Fails with `NoMemory` if memory runs out.
 pub fn double_is_read_again(alloc: Global, x: f64) -> Result<Option<RawNumber>>
     ensures read { IfOk result (λ o. IfSome o (λ r. IsReadAs binary64 (raw_literal r) x)) }
     ensures err { OnlyNoMemory result }
@@ -53,8 +53,8 @@ pub fn double_is_read_again(alloc: Global, x: f64) -> Result<Option<RawNumber>>
     RawNumber::from_f64(alloc, x)
 }
 
-/// Returns the number of a finite `f32`, which is read as the same `f32` again, also for -0. Fails
-/// with `NoMemory` if memory runs out.
+/// Returns the number of `x` if `x` is finite. Its contract shows that reading the number returns
+/// `x` again, also for -0. Fails with `NoMemory` if memory runs out.
 pub fn single_is_read_again(alloc: Global, x: f32) -> Result<Option<RawNumber>>
     ensures read { IfOk result (λ o. IfSome o (λ r. IsReadAs binary32 (raw_literal r) x)) }
     ensures err { OnlyNoMemory result }

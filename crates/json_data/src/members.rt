@@ -133,9 +133,9 @@ pub fn read_members<S: InputStr, M: Members<S>, T: Tokens<S>>(
     read_rest(alloc, members, tokens)
 }
 
-/// Reads an object as [`read_members`] does if the source has a fast path for its beginning.
-/// Returns whether an object was read. If not, nothing was taken and `members` is as it was. Fails
-/// as [`read_members`] does.
+/// Reads an object as [`read_members`] does if the fast path [`Tokens::begins`] of the source finds
+/// its beginning. Returns whether an object was read. If not, nothing was taken and `members` is as
+/// it was. Fails as [`read_members`] does.
 #[inline(always)]
 pub fn try_read_members<S: InputStr, M: Members<S>, T: Tokens<S>>(
     alloc: Global,

@@ -117,8 +117,9 @@ pub fn read_struct<S: InputStr, B: Builder<S> + Drop, T: Tokens<S>>(
     }
 }
 
-/// Reads a struct as [`read_struct`] does if the source has a fast path for the beginning of an
-/// object. Otherwise returns `None` and takes nothing. Fails as [`read_struct`] does.
+/// Reads a struct as [`read_struct`] does if the fast path [`Tokens::begins`] of the source finds
+/// the beginning of an object. Otherwise returns `None` and takes nothing. Fails as [`read_struct`]
+/// does.
 pub fn try_read_struct<S: InputStr, B: Builder<S> + Drop, T: Tokens<S>>(
     alloc: Global,
     tokens: &mut T,

@@ -122,9 +122,9 @@ fn explained_bytes<'a, T: Explain<&'a str>>(
 /// as `json_data::from_str` does.
 ///
 /// If the value of the text is no `T`, the error says which value within it is refused: the path to
-/// the innermost one, its line and column, what was found and what was wanted. Otherwise it says
-/// where the text is no valid JSON. Fails with `NoMemory` if memory runs out, also while an error
-/// is explained.
+/// the innermost one, its line and column, what was found and what was wanted. Otherwise it is the
+/// error of `json_data::from_str`. Fails with `NoMemory` if memory runs out, also while an error is
+/// explained.
 pub fn from_str<'a, T: Explain<&'a str>>(
     alloc: Global,
     text: &'a str,

@@ -7,8 +7,7 @@ use json_doc::JsonType;
 use json_io::{Error, Place};
 use std::fmt;
 
-/// The error of a call that reads a value: why no value was read, and where. It is displayed as one
-/// line.
+/// The error of a call that reads a value: why no value was read, and where.
 ///
 /// ```
 /// use json_explain::from_str;

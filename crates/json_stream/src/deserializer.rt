@@ -81,10 +81,10 @@ impl<'a> Deserializer<'a> {
         Deserializer::of_text(s, false, None)
     }
 
-    /// Creates a reader at the beginning of a repaired text: the text of an input that was not
-    /// UTF-8, with U+FFFD for its invalid bytes. The text has at most 4,294,967,295 bytes, and is
+    /// Creates a reader at the beginning of a repaired text: one that was made of any bytes, with
+    /// U+FFFD for each ill-formed run of them. The text has at most 4,294,967,295 bytes, and is
     /// read in the lossy mode of [`Deserializer::utf8_lossy`]. Offsets, lines and columns are those
-    /// of the input.
+    /// of the bytes.
     pub fn from_repaired(r: &'a Repaired) -> Deserializer<'a>
         requires { length r.now.text < 2 ^ 32 }
         ensures state { result ≡ record {

@@ -266,9 +266,9 @@ impl Events for ValueBuilder {
 /// Returns the `Value` that `value` is written as. If an object has a key more than once, the last
 /// of its values counts, at the place of the first.
 ///
-/// Fails with `NumberOutOfRange` if an integer that is no key lies outside both `i64` and `u64`,
-/// and with `SerExpectKeyIsStrOrNum` if a key has no text; the first of these from the left
-/// decides. Fails with `NoMemory` if memory runs out, and in no other case.
+/// Fails with `NumberOutOfRange` exactly if an integer that is no key lies outside both `i64` and
+/// `u64`, and with `SerExpectKeyIsStrOrNum` exactly if a key has no text; if `value` has both, the
+/// first of them from the left decides. Fails with `NoMemory` if memory runs out.
 pub fn to_value<T: Serialize>(alloc: Global, value: &T) -> Result<Value>
     ensures ok { IfOk result (λ v.
         option_map merged (datum_tree (T.datum value.now)) ≡ Some (tree_of v)) }

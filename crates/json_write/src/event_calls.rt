@@ -91,8 +91,8 @@ pub fn begin_list<E: Events>(hint: Option<usize>, out: &mut E) -> Result<()>
     out.begin_array(hint)
 }
 
-/// Writes the end of the innermost open array to `out`. Fails with the error of `out`, if its call
-/// fails.
+/// Writes the end of the innermost open container, an array, to `out`. Fails with the error of
+/// `out`, if its call fails.
 #[inline(always)]
 pub fn end_list<E: Events>(out: &mut E) -> Result<()>
     requires { AcceptsEnd (E.failed out.old) (E.token_state (E.state out.old)) array }
@@ -125,8 +125,8 @@ pub fn give_key<E: Events>(s: &str, out: &mut E) -> Result<()>
     out.key(s)
 }
 
-/// Writes the end of the innermost open object to `out`. Fails with the error of `out`, if its call
-/// fails.
+/// Writes the end of the innermost open container, an object, to `out`. Fails with the error of
+/// `out`, if its call fails.
 #[inline(always)]
 pub fn end_rows<E: Events>(out: &mut E) -> Result<()>
     requires { AcceptsEnd (E.failed out.old) (E.token_state (E.state out.old)) object }

@@ -48,7 +48,7 @@ pub fn to_writer<K: Sink, T: Serialize>(alloc: Global, writer: &mut K, value: &T
 
 /// Writes `value` as a JSON text, each level indented by two spaces, and appends it to the sink
 /// `writer`. Fails with `SerExpectKeyIsStrOrNum` if a key has no text; all keys are tested first,
-/// and nothing is appended then. If the sink fails or memory runs out, a prefix of the text may
+/// and nothing is appended then. If the sink fails, or memory runs out, a prefix of the text may
 /// have been appended.
 pub fn to_writer_pretty<K: Sink, T: Serialize>(
     alloc: Global,
