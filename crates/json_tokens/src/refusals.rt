@@ -14,7 +14,7 @@ pub fn error_without_place(code: ErrorCode) -> Error
     }
 }
 
-/// Returns whether the code is one with which a reader refuses a valid value that is none of its
+/// Returns whether the code is one with which a reader refuses valid JSON that is no value of its
 /// type: `TypeUnmatched`, `NumberOutOfRange` or `ExpectedNumericKey`.
 pub fn is_refusal(code: ErrorCode) -> bool
     ensures { result ≡ spec_is_refusal code }

@@ -18,11 +18,11 @@ use json_io::Result;
 use json_value::Value;
 use std::alloc::Global;
 
-/// A source of tokens: gives the tokens of one JSON value from left to right, in one pass. `S` is
+/// A source of tokens: returns the tokens of one JSON value from left to right, in one pass. `S` is
 /// how it lends texts, `&'a str` for both sources of this crate.
 ///
 /// A call takes tokens: the next call goes on after them. Errors are sticky: after a call has
-/// failed, every later call returns the same error, and those that return no error take nothing.
+/// failed, every later call returns the same error; those that return no `Result` take nothing.
 /// [`Tokens::integer`] and all calls after it are fast paths, which a source need not have: each
 /// may take nothing although such a token is next.
 ///
