@@ -28,7 +28,7 @@ use json_io::Result;
 use json_value::{Array, Value};
 use std::alloc::Global;
 
-// Copies of these.
+// Returns copies of the values.
 fn copy_all(alloc: Global, items: &[Value]) -> Result<Vec<Value>>
     ensures list { IfOk result (λ v. map tree_of v.items ≡ map tree_of items.now) }
     ensures origins { IfOk result (λ v. map value_origin v.items ≡ map value_origin items.now) }
@@ -55,7 +55,7 @@ fn copies_of(alloc: Global, value: &Value, count: usize) -> Result<Vec<Value>>
     Ok(copies)
 }
 
-// Puts the elements back, for which there is room.
+// Appends the elements of `rest` to `list`, which has room for them.
 fn put_back(list: &mut Vec<Value>, rest: &mut Vec<Value>)
     requires { vec_len list.old + vec_len rest.old ≤ vec_capacity list.old }
     ensures { list.new.items ≡ list.old.items ++ rest.old.items }
@@ -66,7 +66,7 @@ fn put_back(list: &mut Vec<Value>, rest: &mut Vec<Value>)
     }
 }
 
-// The elements of the range, taken out.
+// Removes the elements from `from` up to `to`, and returns them.
 fn take_range(list: &mut Vec<Value>, from: usize, to: usize) -> Result<Vec<Value>>
     requires order { from ≤ to }
     requires within { to ≤ vec_len list.old }
@@ -88,9 +88,9 @@ fn take_range(list: &mut Vec<Value>, from: usize, to: usize) -> Result<Vec<Value
     }
 }
 
-/// The calls of an array that are those of a list. The first write to a place of a document copies
-/// one level of it: each element becomes a value of its own, or a place of the same document. Fails
-/// with `NoMemory` if memory runs out, and then the array has the elements that it had.
+/// The calls of an array that a `Vec` has. If the array is a place of a document (a part of a
+/// shared JSON text), the first write copies one level: each element becomes a value of its own, or
+/// a place of the same document. A call that changes the array takes memory from `alloc`.
 ///
 /// ```
 /// use json_containers::ArrayCalls;
@@ -106,20 +106,19 @@ pub trait ArrayCalls {
     /// The array.
     ghost held: { Self → Container Value };
 
-    /// How many elements there are.
+    /// Returns the number of elements.
     fn len(&self) -> usize
         ensures { result ≡ length (list_in (held self.now)) };
 
-    /// Whether there is none.
+    /// Returns whether the array has no elements.
     fn is_empty(&self) -> bool
         ensures { IsTrue result ↔ (list_in (held self.now) ≡ []) };
 
-    /// How many elements there can be before memory is asked for.
+    /// Returns how many elements the array can have before it needs more memory.
     fn capacity(&self) -> usize
         ensures { result ≡ length (list_in (held self.now)) + spare_in (held self.now) };
 
-    /// Room for at least as many more. Fails with `NoMemory`, and changes nothing, if memory runs
-    /// out.
+    /// Makes room for `additional` more elements or more. Fails with `NoMemory` if memory runs out.
     fn reserve(&mut self, alloc: Global, additional: usize) -> Result<()>
         ensures room { OnOk result (additional ≤ spare_in (held self.new)) }
         ensures same { ArrayStays (held self.old) (held self.new) }
@@ -127,8 +126,8 @@ pub trait ArrayCalls {
             → IsOk result × (held self.new ≡ held self.old) }
         ensures only { OnlyNoMemory result };
 
-    /// Puts the element before the one at the index. Fails with `NoMemory`, and changes nothing, if
-    /// memory runs out.
+    /// Inserts an element before the one at `index`, which may be the length. Fails with `NoMemory`
+    /// if memory runs out; the elements stay as they were.
     fn insert(&mut self, alloc: Global, index: usize, element: Value) -> Result<()>
         requires { index ≤ length (list_in (held self.old)) }
         ensures ok { OnOk result (list_in (held self.new)
@@ -138,7 +137,7 @@ pub trait ArrayCalls {
         ensures kept { ArrayStaysOnErr (held self.old) (held self.new) result }
         ensures only { OnlyNoMemory result };
 
-    /// Appends the element. Fails with `NoMemory`, and changes nothing, if memory runs out.
+    /// Appends an element. Fails with `NoMemory` if memory runs out; nothing is appended then.
     fn push(&mut self, alloc: Global, val: Value) -> Result<()>
         ensures ok { OnOk result (list_in (held self.new)
             ≡ list_in (held self.old) ++ tree_of val ∷ []) }
@@ -149,8 +148,8 @@ pub trait ArrayCalls {
         ensures room { TakesRoomForOne (held self.old) (held self.new) }
         ensures only { OnlyNoMemory result };
 
-    /// Takes the element out; the others close up. Fails with `NoMemory`, and changes nothing, if
-    /// memory runs out.
+    /// Removes and returns the element at `index`; those after it move up. Fails with `NoMemory` if
+    /// memory runs out, and changes nothing then.
     fn remove(&mut self, alloc: Global, index: usize) -> Result<Value>
         requires { index < length (list_in (held self.old)) }
         ensures ok { OnOk result (list_in (held self.new)
@@ -162,8 +161,8 @@ pub trait ArrayCalls {
         ensures free { (IsPlace (held self.old) → ⊥) → IsOk result }
         ensures only { OnlyNoMemory result };
 
-    /// Creates an array without elements, with room for `capacity` of them. Fails with `NoMemory`
-    /// if memory runs out.
+    /// Creates an array without elements, with room for at least `capacity` of them. Fails with
+    /// `NoMemory` if memory runs out.
     fn with_capacity(alloc: Global, capacity: usize) -> Result<Array>
         ensures list { IfOk result (λ a. list_in a ≡ []) }
         ensures no_place { IfOk result (λ a. IsPlace a → ⊥) }
@@ -171,8 +170,8 @@ pub trait ArrayCalls {
         ensures free { capacity ≡ 0 → IsOk result }
         ensures only { OnlyNoMemory result };
 
-    /// Takes the element out; the last one takes its place. Fails with `NoMemory`, and changes
-    /// nothing, if memory runs out.
+    /// Removes and returns the element at `index`; the last one takes its place. Fails with
+    /// `NoMemory` if memory runs out, and changes nothing then.
     fn swap_remove(&mut self, alloc: Global, index: usize) -> Result<Value>
         requires { index < length (list_in (held self.old)) }
         ensures ok { IfOk result (λ v. list_in (held self.new)
@@ -184,8 +183,8 @@ pub trait ArrayCalls {
         ensures free { (IsPlace (held self.old) → ⊥) → IsOk result }
         ensures only { OnlyNoMemory result };
 
-    /// Keeps the first `len` elements, or all. Fails with `NoMemory`, and changes nothing, if
-    /// memory runs out.
+    /// Keeps the first `len` elements, or all if there are fewer. Fails with `NoMemory` if memory
+    /// runs out, and changes nothing then.
     fn truncate(&mut self, alloc: Global, len: usize) -> Result<()>
         ensures ok { OnOk result (list_in (held self.new) ≡ take len (list_in (held self.old))) }
         ensures children { OnOk result (ArrayBecame (take len) (held self.old) (held self.new)) }
@@ -193,8 +192,8 @@ pub trait ArrayCalls {
         ensures free { (IsPlace (held self.old) → ⊥) → IsOk result }
         ensures only { OnlyNoMemory result };
 
-    /// The last element, taken out; none exactly of an array without elements. Fails with
-    /// `NoMemory`, and changes nothing, if memory runs out.
+    /// Removes and returns the last element; returns `None` exactly if there is none. Fails with
+    /// `NoMemory` if memory runs out, and changes nothing then.
     fn pop(&mut self, alloc: Global) -> Result<Option<Value>>
         ensures ok { IfOk result (λ o. list_in (held self.old)
             ≡ list_in (held self.new) ++ option_to_list (option_map tree_of o)) }
@@ -206,15 +205,15 @@ pub trait ArrayCalls {
         ensures free { (IsPlace (held self.old) → ⊥) → IsOk result }
         ensures only { OnlyNoMemory result };
 
-    /// No elements. An owned list keeps its room. Takes no memory.
+    /// Removes all elements. An array that is no place of a document keeps its room.
     fn clear(&mut self)
         ensures empty { list_in (held self.new) ≡ [] }
         ensures no_place { IsPlace (held self.new) → ⊥ }
         ensures room { KeepsRoom (length (list_in (held self.old)))
             (held self.old) (held self.new) };
 
-    /// The elements from the index on, taken out. Fails with `NoMemory`, and changes nothing, if
-    /// memory runs out.
+    /// Removes the elements from `at` on and returns them as an array. Fails with `NoMemory` if
+    /// memory runs out; the elements stay as they were.
     fn split_off(&mut self, alloc: Global, at: usize) -> Result<Array>
         requires { at ≤ length (list_in (held self.old)) }
         ensures ok { OnOk result (list_in (held self.new) ≡ take at (list_in (held self.old))) }
@@ -226,8 +225,8 @@ pub trait ArrayCalls {
         ensures kept { ArrayStaysOnErr (held self.old) (held self.new) result }
         ensures only { OnlyNoMemory result };
 
-    /// The elements of the range, taken out. Fails with `NoMemory`, and changes nothing, if memory
-    /// runs out.
+    /// Removes the elements from `from` up to (not including) `to` and returns them. Fails with
+    /// `NoMemory` if memory runs out; the elements stay as they were.
     fn drain(&mut self, alloc: Global, from: usize, to: usize) -> Result<Array>
         requires order { from ≤ to }
         requires within { to ≤ length (list_in (held self.old)) }
@@ -242,8 +241,8 @@ pub trait ArrayCalls {
         ensures kept { ArrayStaysOnErr (held self.old) (held self.new) result }
         ensures only { OnlyNoMemory result };
 
-    /// The other's elements, appended; the other has none then. Fails with `NoMemory`, and changes
-    /// nothing, if memory runs out.
+    /// Moves the elements of `other` to the end of this array. Fails with `NoMemory` if memory runs
+    /// out; the elements of both stay as they were.
     fn append(&mut self, alloc: Global, other: &mut Array) -> Result<()>
         ensures ok { OnOk result (list_in (held self.new)
             ≡ list_in (held self.old) ++ list_in other.old) }
@@ -256,7 +255,7 @@ pub trait ArrayCalls {
             × ArrayStays other.old other.new) }
         ensures only { OnlyNoMemory result };
 
-    /// Appends copies of these. Fails with `NoMemory`, and changes nothing, if memory runs out.
+    /// Appends copies of `items`, or fails with `NoMemory` and appends nothing.
     fn extend(&mut self, alloc: Global, items: &[Value]) -> Result<()>
         ensures ok { OnOk result (list_in (held self.new)
             ≡ list_in (held self.old) ++ map tree_of items.now) }
@@ -265,8 +264,8 @@ pub trait ArrayCalls {
         ensures kept { ArrayStaysOnErr (held self.old) (held self.new) result }
         ensures only { OnlyNoMemory result };
 
-    /// Copies of that range, appended. Fails with `NoMemory`, and changes nothing, if memory runs
-    /// out.
+    /// Appends copies of the elements from `from` up to (not including) `to`. Fails with `NoMemory`
+    /// if memory runs out; nothing is appended then.
     fn extend_from_within(&mut self, alloc: Global, from: usize, to: usize) -> Result<()>
         requires order { from ≤ to }
         requires within { to ≤ length (list_in (held self.old)) }
@@ -278,8 +277,8 @@ pub trait ArrayCalls {
         ensures kept { ArrayStaysOnErr (held self.old) (held self.new) result }
         ensures only { OnlyNoMemory result };
 
-    /// Cut to this length, or filled up with copies of the value. Fails with `NoMemory`, and
-    /// changes nothing, if memory runs out.
+    /// Truncates to `new_len` elements, or appends copies of `value` up to that. Fails with
+    /// `NoMemory` if memory runs out; the elements stay as they were.
     fn resize(&mut self, alloc: Global, new_len: usize, value: &Value) -> Result<()>
         ensures ok { OnOk result (list_in (held self.new)
             ≡ take new_len (list_in (held self.old))
@@ -290,8 +289,8 @@ pub trait ArrayCalls {
         ensures kept { ArrayStaysOnErr (held self.old) (held self.new) result }
         ensures only { OnlyNoMemory result };
 
-    /// Keeps the elements for which `f` is true, in order. Fails with `NoMemory`, and changes
-    /// nothing, if memory runs out.
+    /// Removes the elements for which `f` returns false; the others keep their order. Fails with
+    /// `NoMemory` if memory runs out, and changes nothing then.
     fn retain<F: FnMut(&Value) -> bool>(&mut self, alloc: Global, f: F) -> Result<()>
         requires { F.IsAlwaysCallable f }
         ensures ok { OnOk result
@@ -302,8 +301,8 @@ pub trait ArrayCalls {
         ensures free { (IsPlace (held self.old) → ⊥) → IsOk result }
         ensures only { OnlyNoMemory result };
 
-    /// The same, with what `f` writes. Fails with `NoMemory`, and changes nothing, if memory runs
-    /// out.
+    /// Removes the elements for which `f` returns false, and keeps what it writes to the others.
+    /// Fails with `NoMemory` if memory runs out, and changes nothing then.
     fn retain_mut<F: FnMut(&mut Value) -> bool>(&mut self, alloc: Global, f: F) -> Result<()>
         requires { F.IsAlwaysCallable f }
         ensures children { OnOk result (ArrayChanged (RetainsInTurn (CalledAtMut F.FnMut) f)
@@ -312,8 +311,8 @@ pub trait ArrayCalls {
         ensures free { (IsPlace (held self.old) → ⊥) → IsOk result }
         ensures only { OnlyNoMemory result };
 
-    /// Truncates to this length, or appends what `f` returns up to it, in order. Fails with
-    /// `NoMemory`, and changes nothing, if memory runs out.
+    /// Truncates to `new_len` elements, or appends results of `f` up to that, in order. Fails with
+    /// `NoMemory` if memory runs out; the elements stay as they were.
     fn resize_with<F: FnMut() -> Value>(
         &mut self,
         alloc: Global,
@@ -328,7 +327,8 @@ pub trait ArrayCalls {
         ensures kept { ArrayStaysOnErr (held self.old) (held self.new) result }
         ensures only { OnlyNoMemory result };
 
-    /// An iterator over all elements. After a refusal the array is gone.
+    /// Returns an iterator over the elements. Fails with `NoMemory` if memory runs out, and drops
+    /// them.
     fn into_iter(self, alloc: Global) -> Result<IntoIter>
         ensures left { IfOk result (λ it. map tree_of (values_left it) ≡ list_in (held self)) }
         ensures children { IfOk result (λ it. FirstElements (held self) (values_left it)) }
@@ -336,8 +336,8 @@ pub trait ArrayCalls {
         ensures free { (IsPlace (held self) → ⊥) → IsOk result }
         ensures only { OnlyNoMemory result };
 
-    /// All elements, to be changed. What is written through the slice is what the array has. Fails
-    /// with `NoMemory`, and changes nothing, if memory runs out.
+    /// Returns all elements, to be changed, for as long as the array is borrowed. Fails with
+    /// `NoMemory` if memory runs out, and changes nothing then.
     fn as_mut_slice(&mut self, alloc: Global) -> Result<&mut [Value]>
         ensures* writes_back { sem 𝓛 (LendsSoOk Self.row slice_row self.entry result
             (λ n w. ArrayBecame (λ items. written_over items w) (held self.old) (held n))

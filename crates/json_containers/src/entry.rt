@@ -15,7 +15,8 @@ ghost use Rattle.json_containers.specs.Members.{own_members, key_at, object_with
 use json_value::{Object, Pair, Text, Value};
 use std::mem::replace;
 
-/// The entry of a key: there, or missing. No call of an entry takes memory.
+/// The entry of a key in an object, from [`ObjectCalls::entry`](crate::ObjectCalls::entry): of a
+/// key that is there, or one that is missing. Its calls take no memory.
 ///
 /// ```
 /// use json_containers::ObjectCalls;
@@ -27,11 +28,13 @@ use std::mem::replace;
 /// ```
 #[derive(Drop)]
 pub enum Entry<'a> {
+    /// The object has a member with this key.
     Occupied(OccupiedEntry<'a>),
+    /// The object has no member with this key.
     Vacant(VacantEntry<'a>),
 }
 
-/// The entry of a key that is there, at its first member.
+/// The entry of a key that an object has: the first member with this key.
 ///
 /// ```
 /// use json_containers::{Entry, ObjectCalls};
@@ -53,7 +56,7 @@ pub struct OccupiedEntry<'a> {
         (list_pairs (map pair_of (take at (own_members object.now)))) ≡ false },
 }
 
-/// The entry of a key that is missing, with the key and with room for a member.
+/// The entry of a key that an object does not have, with the key and with room for a member.
 ///
 /// ```
 /// use json_containers::{Entry, ObjectCalls};
@@ -73,7 +76,7 @@ pub struct VacantEntry<'a> {
     ghost reserved: { 0 < spare_in object.now },
 }
 
-// The value of the member at the index.
+// Returns the value of the member at the index, to be changed.
 fn value_mut_at(object: &mut Object, at: usize) -> &mut Value
     requires { at < length (own_members object.old) }
     ensures* writes_back { sem 𝓛 (Lends object_row value_row object.entry result
@@ -117,7 +120,7 @@ impl<'a> OccupiedEntry<'a> {
     ghost use Rattle.json_value.specs.declared.value.Value.{Value};
     ghost use Rattle.json_value.specs.Rows.{OwnsList};
 
-    /// Returns the value, to be changed, for as long as the object is borrowed.
+    /// Returns the value of the entry, to be changed, for as long as the object is borrowed.
     pub fn into_mut(self) -> &'a mut Value
         ensures* writes_back { sem 𝓛 (entry_lends (Occupied self.entry) result) }
         ensures value { entry_value (Occupied self.entry) ≡ Some result.now }
@@ -126,7 +129,7 @@ impl<'a> OccupiedEntry<'a> {
         value_mut_at(object, self.at)
     }
 
-    /// Returns the value, to be changed, for as long as the entry is borrowed.
+    /// Returns the value of the entry, to be changed, for as long as the entry is borrowed.
     pub fn get_mut(&mut self) -> &mut Value
         ensures* writes_back { sem 𝓛 (occupied_lends self.entry result) }
         ensures value { entry_value (Occupied self.old) ≡ Some result.now }
@@ -137,7 +140,7 @@ impl<'a> OccupiedEntry<'a> {
         value_mut_at(self.object, at)
     }
 
-    /// Sets the value, and returns the old one.
+    /// Sets the value of the entry, and returns the old one.
     pub fn insert(&mut self, val: Value) -> Value
         ensures old { entry_value (Occupied self.old) ≡ Some result }
         ensures written { IsWritten (Occupied self.old) val (Occupied self.new) }
@@ -145,7 +148,7 @@ impl<'a> OccupiedEntry<'a> {
         replace(self.get_mut(), val)
     }
 
-    /// Returns the key.
+    /// Returns the key of the entry.
     pub fn key(&self) -> &str
         ensures { result.now ≡ entry_key (Occupied self.now) }
     {
@@ -155,7 +158,7 @@ impl<'a> OccupiedEntry<'a> {
         }
     }
 
-    /// Returns the value.
+    /// Returns the value of the entry, for as long as the entry is borrowed.
     pub fn get(&self) -> &Value
         ensures { entry_value (Occupied self.now) ≡ Some result.now }
     {
@@ -165,7 +168,7 @@ impl<'a> OccupiedEntry<'a> {
         }
     }
 
-    /// Takes out all members of the key. The value of the first.
+    /// Removes all members with the key of the entry, and returns the value of the first.
     pub fn remove(self) -> Value
         ensures value { entry_value (Occupied self.entry) ≡ Some result }
         ensures removed { own_members self.exit.0.now
@@ -185,14 +188,15 @@ impl<'a> OccupiedEntry<'a> {
 impl<'a> VacantEntry<'a> {
     ghost use Rattle.json_containers.specs.Entry.{Vacant, entry_key, entry_lends};
 
-    /// Returns the key.
+    /// Returns the key of the entry.
     pub fn key(&self) -> &str
         ensures { result.now ≡ entry_key (Vacant self.now) }
     {
         self.key.as_str()
     }
 
-    /// Inserts the member and returns its value, to be changed.
+    /// Appends a member with the key of the entry and this value. Returns the value, to be changed,
+    /// for as long as the object is borrowed.
     pub fn insert(self, val: Value) -> &'a mut Value
         ensures* writes_back { sem 𝓛 (entry_lends (Vacant self.entry) result) }
         ensures value { result.now ≡ val }
@@ -216,7 +220,8 @@ impl<'a> Entry<'a> {
     ghost use Rattle.json_containers.specs.Entry.{entry_ref, entry_key, entry_value, entry_with};
     ghost use Rattle.json_containers.specs.Entry.{entry_lends};
 
-    /// Returns the value there, or the default, which is appended.
+    /// Returns the value of the entry, to be changed, for as long as the object is borrowed. If the
+    /// key is missing, first appends a member with the value `default`.
     pub fn or_insert(self, default: Value) -> &'a mut Value
         ensures* writes_back { sem 𝓛 (entry_lends self.entry result) }
         ensures value { result.now ≡ unwrap_or (entry_value self.entry) default }
@@ -230,7 +235,7 @@ impl<'a> Entry<'a> {
         }
     }
 
-    /// Returns the key.
+    /// Returns the key of the entry.
     pub fn key(&self) -> &str
         ensures { result.now ≡ entry_key self.now }
     {
@@ -240,8 +245,9 @@ impl<'a> Entry<'a> {
         }
     }
 
-    /// Returns the value there, or inserts what `default` returns. It is called for a missing key
-    /// alone.
+    /// Returns the value of the entry, to be changed, for as long as the object is borrowed. If the
+    /// key is missing, first appends a member with the value that `default` returns; it is called
+    /// only then.
     pub fn or_insert_with<F: FnOnce() -> Value>(self, default: F) -> &'a mut Value
         requires { entry_value self ≡ None → F.pre default }
         ensures* writes_back { sem 𝓛 (entry_lends self.entry result) }
@@ -253,7 +259,9 @@ impl<'a> Entry<'a> {
         }
     }
 
-    /// Returns the value there, or that of `default`, called with the key, which is appended.
+    /// Returns the value of the entry, to be changed, for as long as the object is borrowed. If the
+    /// key is missing, first appends a member with the value that `default` returns for the key; it
+    /// is called only then.
     pub fn or_insert_with_key<F: FnOnce(&str) -> Value>(self, default: F) -> &'a mut Value
         requires { entry_value self ≡ None
             → (p : Bor (List ℕ)) → p.now ≡ entry_key self → F.pre default p }
@@ -270,7 +278,7 @@ impl<'a> Entry<'a> {
         }
     }
 
-    /// Returns the entry, after `f` has run on a value that is there.
+    /// Calls `f` with the value of the entry if the key is there, and returns the entry.
     pub fn and_modify<F: FnOnce(&mut Value)>(self, f: F) -> Entry<'a>
         requires { (p : MutBor Value) → entry_value self ≡ Some p.now → F.pre f p }
         ensures same_object { (entry_ref result).ghost_name ≡ (entry_ref self.entry).ghost_name }
@@ -287,7 +295,8 @@ impl<'a> Entry<'a> {
         }
     }
 
-    /// Returns the value there, or null, which is appended.
+    /// Returns the value of the entry, to be changed, for as long as the object is borrowed. If the
+    /// key is missing, first appends a member with the value null.
     pub fn or_default(self) -> &'a mut Value
         ensures* writes_back { sem 𝓛 (entry_lends self.entry result) }
         ensures value { result.now ≡ unwrap_or (entry_value self.entry) NullValue }

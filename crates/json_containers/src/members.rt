@@ -60,7 +60,7 @@ pub(crate) fn put_pairs(pairs: &mut Vec<Pair>, more: Vec<Pair>)
     }
 }
 
-// Calls `f` at the member.
+// Calls `f` with the key and the value of the member, and returns what it returns.
 fn keeps_member<F: FnMut(&str, &mut Value) -> bool>(f: &mut F, pair: &mut Pair) -> bool
     requires { F.IsAlwaysCallable f.old }
     ensures called { CalledAtMember F.FnMut f.old pair.old result f.new pair.new }

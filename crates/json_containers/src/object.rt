@@ -39,7 +39,7 @@ use json_value::{Iter, Object, Pair, Text, Value, View, find_key};
 use std::alloc::Global;
 use std::mem::replace;
 
-// Makes the list an owned one. The place of the first member of the key in it.
+// Copies one level of a place of a document, and returns the index of the first member of the key.
 fn seek(object: &mut Object, alloc: Global, key: &str) -> Result<Option<usize>>
     ensures same { pairs_in object.new ≡ pairs_in object.old }
     ensures owned { OnOk result (OwnsList object.new) }
@@ -56,7 +56,7 @@ fn seek(object: &mut Object, alloc: Global, key: &str) -> Result<Option<usize>>
     Ok(find_key(pairs.as_slice(), key))
 }
 
-// Room for one member more.
+// Makes room for one more member.
 fn make_room(object: &mut Object) -> Result<()>
     requires { OwnsList object.old }
     ensures members { own_members object.new ≡ own_members object.old }
@@ -70,7 +70,7 @@ fn make_room(object: &mut Object) -> Result<()>
     Ok(())
 }
 
-// The value of the first member of the key.
+// Returns the value of the first member of the key, to be changed. Fails if there is none.
 fn added_value<'o>(object: &'o mut Object, alloc: Global, key: &str) -> Result<&'o mut Value>
     ensures* writes_back { sem 𝓛 (LendsSoOk object_row value_row object.entry result
         (λ n w. ObjectChanged (AtMember key.now (λ before after. after ≡ w)) object.old n)
@@ -91,8 +91,9 @@ fn added_value<'o>(object: &'o mut Object, alloc: Global, key: &str) -> Result<&
     }
 }
 
-// A place that is lent, or none where there was none; only want of memory stays an error. The walk
-// of `get_mut` can name the contract of a function of its own crate alone, so this one is here too.
+// Returns the value that is lent, or `None` if it was not found; only `NoMemory` stays an error.
+// The walk of `get_mut` can name the contract of a function of its own crate alone, so this one is
+// here too.
 fn none_if_missing<'a>(r: Result<&'a mut Value>) -> Result<Option<&'a mut Value>>
     ensures missing_as_none { result ≡ missing_as_none r.entry }
 {
@@ -105,9 +106,12 @@ fn none_if_missing<'a>(r: Result<&'a mut Value>) -> Result<Option<&'a mut Value>
     }
 }
 
-/// The calls of an object that are those of a list of members. The first of equal keys is read and
-/// set, and a removal takes out all. The first write to a place of a document copies one level of
-/// it. Fails with `NoMemory` if memory runs out, and then the object has the members that it had.
+/// The calls of an object that a map has. Members keep their order, and a key may repeat: the first
+/// member of a key is read and written, and a removal takes out all of them.
+///
+/// If the object is a place of a document (a part of a shared JSON text), the first write copies
+/// one level of it: each value becomes a value of its own, or a place of the same document. A call
+/// that changes the object takes memory from `alloc`.
 ///
 /// ```
 /// use json_containers::ObjectCalls;
@@ -123,42 +127,45 @@ pub trait ObjectCalls {
     /// The object.
     ghost held: { Self → Container (Keyed Value) };
 
-    /// How many members there are, repeated keys counted.
+    /// Returns the number of members. Each member of a repeated key counts.
     fn len(&self) -> usize
         ensures { result ≡ length (pairs_in (held self.now)) };
 
-    /// Whether there is none.
+    /// Returns whether the object has no members.
     fn is_empty(&self) -> bool
         ensures { IsTrue result ↔ (pairs_in (held self.now) ≡ []) };
 
-    /// How many members there can be before memory is asked for.
+    /// Returns how many members the object can have before it needs more memory.
     fn capacity(&self) -> usize
         ensures { result ≡ length (pairs_in (held self.now)) + spare_in (held self.now) };
 
-    /// The value of the first member of the key; none where there is none.
+    /// Returns the value of the first member named `key`, for as long as the object is borrowed.
+    /// Returns `None` if there is no such member.
     fn get(&self, key: &str) -> Option<View<'_>>
         ensures tree { option_map seen result ≡ first_member_value key.now (pairs_in (held self.now)) }
         ensures target { option_map view_target result
             ≡ option_map (λ p. p.1) (first_of key.now (object_targets (held self.now))) };
 
-    /// Whether there is a member of the key.
+    /// Returns whether there is a member named `key`.
     fn contains_key(&self, key: &str) -> bool
         ensures { result ≡ has_key key.now (list_pairs (pairs_in (held self.now))) };
 
-    /// The key and the value of the first member of the key; none where there is none.
+    /// Returns the key and the value of the first member named `key`, for as long as the object is
+    /// borrowed. Returns `None` if there is no such member.
     fn get_key_value(&self, key: &str) -> Option<(&str, View<'_>)>
         ensures tree { option_map (λ p. (p.0.now, seen p.1)) result
             ≡ first_of key.now (pairs_in (held self.now)) }
         ensures target { option_map member_target result
             ≡ first_of key.now (object_targets (held self.now)) };
 
-    /// The members, each its key and its value, in order.
+    /// Returns an iterator over the members in order, each as its key and its value.
     fn iter(&self) -> Iter<'_>
         ensures trees { members_left result ≡ pairs_in (held self.now) }
         ensures targets { members_targets_left result ≡ object_targets (held self.now) };
 
-    /// The value of the first member of the key, to be changed; none exactly where the key is
-    /// missing. Fails with `NoMemory`, and changes nothing, if memory runs out.
+    /// Returns the value of the first member named `key`, to be changed, for as long as the object
+    /// is borrowed. Returns `None` exactly if there is no such member. Fails with `NoMemory` if
+    /// memory runs out; the members stay as they were.
     fn get_mut(&mut self, alloc: Global, key: &str) -> Result<Option<&mut Value>>
         ensures* writes_back { sem 𝓛 (LendsPart Self.row value_row self.entry result
             (λ n w. ObjectChanged (AtMember key.now (λ before after. after ≡ w))
@@ -169,8 +176,8 @@ pub trait ObjectCalls {
         ensures free { (IsPlace (held self.old) → ⊥) → IsOk result }
         ensures only { OnlyNoMemory result };
 
-    /// The member at the index, to be changed. Fails with `NoMemory`, and changes nothing, if
-    /// memory runs out.
+    /// Returns the member at index `i`, counted from 0, to be changed, for as long as the object is
+    /// borrowed. Fails with `NoMemory` if memory runs out, and changes nothing then.
     fn pair_mut(&mut self, alloc: Global, i: usize) -> Result<&mut Pair>
         requires { i < length (pairs_in (held self.old)) }
         ensures* writes_back { sem 𝓛 (LendsSoOk Self.row pair_row self.entry result
@@ -181,8 +188,9 @@ pub trait ObjectCalls {
         ensures free { (IsPlace (held self.old) → ⊥) → IsOk result }
         ensures only { OnlyNoMemory result };
 
-    /// Sets the value of the first member of the key, and returns the old one; or appends such a
-    /// member. Fails with `NoMemory`, and changes nothing, if memory runs out.
+    /// Sets the value of the first member named `key` and returns the old value. If there is no
+    /// such member, appends one and returns `None`. Fails with `NoMemory` if memory runs out; the
+    /// members stay as they were.
     fn insert(&mut self, alloc: Global, key: &str, value: Value) -> Result<Option<Value>>
         ensures ok { OnOk result (list_pairs (pairs_in (held self.new))
             ≡ inserted key.now (tree_of value) (list_pairs (pairs_in (held self.old)))) }
@@ -193,8 +201,9 @@ pub trait ObjectCalls {
         ensures kept { ObjectStaysOnErr (held self.old) (held self.new) result }
         ensures only { OnlyNoMemory result };
 
-    /// Keeps the members for which `f` is true, in order, with what it writes. Fails with
-    /// `NoMemory`, and changes nothing, if memory runs out.
+    /// Removes the members for which `f`, called with the key and the value, returns false. The
+    /// others keep their order, with what `f` wrote to their values. Fails with `NoMemory` if
+    /// memory runs out, and changes nothing then.
     fn retain<F: FnMut(&str, &mut Value) -> bool>(&mut self, alloc: Global, f: F) -> Result<()>
         requires { F.IsAlwaysCallable f }
         ensures children { OnOk result (ObjectChanged (RetainsInTurn (CalledAtMember F.FnMut) f)
@@ -203,16 +212,16 @@ pub trait ObjectCalls {
         ensures free { (IsPlace (held self.old) → ⊥) → IsOk result }
         ensures only { OnlyNoMemory result };
 
-    /// Creates an object without members, with room for `capacity` of them. Fails with `NoMemory`
-    /// if memory runs out.
+    /// Creates an object without members, with room for at least `capacity` of them. Fails with
+    /// `NoMemory` if memory runs out.
     fn with_capacity(alloc: Global, capacity: usize) -> Result<Object>
         ensures pairs { IfOk result (λ o. pairs_in o ≡ []) }
         ensures no_place { IfOk result (λ o. IsPlace o → ⊥) }
         ensures room { IfOk result (λ o. capacity ≤ spare_in o) }
         ensures only { OnlyNoMemory result };
 
-    /// Room for at least as many more. Fails with `NoMemory`, and changes nothing, if memory runs
-    /// out.
+    /// Makes room for at least `additional` more members. Fails with `NoMemory` if memory runs out;
+    /// the members stay as they were.
     fn reserve(&mut self, alloc: Global, additional: usize) -> Result<()>
         ensures room { OnOk result (additional ≤ spare_in (held self.new)) }
         ensures same { ObjectStays (held self.old) (held self.new) }
@@ -220,15 +229,17 @@ pub trait ObjectCalls {
             → IsOk result × (held self.new ≡ held self.old) }
         ensures only { OnlyNoMemory result };
 
-    /// No members. An owned list keeps its room. Takes no memory.
+    /// Removes all members. An object that is no place of a document keeps its room. Takes no
+    /// memory.
     fn clear(&mut self)
         ensures empty { pairs_in (held self.new) ≡ [] }
         ensures no_place { IsPlace (held self.new) → ⊥ }
         ensures room { KeepsRoom (length (pairs_in (held self.old)))
             (held self.old) (held self.new) };
 
-    /// Takes out all members of the key. The key, and the value of the first. Fails with
-    /// `NoMemory`, and changes nothing, if memory runs out.
+    /// Removes all members named `key`, and returns `key` with the value of the first. Returns
+    /// `None` if there is no such member. Fails with `NoMemory` if memory runs out, and changes
+    /// nothing then.
     fn remove_entry<'k>(&mut self, alloc: Global, key: &'k str) -> Result<Option<(&'k str, Value)>>
         ensures ok { OnOk result (list_pairs (pairs_in (held self.new))
             ≡ without_key key.now (list_pairs (pairs_in (held self.old)))) }
@@ -241,8 +252,9 @@ pub trait ObjectCalls {
         ensures free { (IsPlace (held self.old) → ⊥) → IsOk result }
         ensures only { OnlyNoMemory result };
 
-    /// Copies of these, inserted in turn. Fails with `NoMemory`, and changes nothing, if memory
-    /// runs out.
+    /// Inserts copies of `pairs`, one after another, as [`ObjectCalls::insert`] does: a key that is
+    /// there gets the new value. Fails with `NoMemory` if memory runs out; the members stay as they
+    /// were.
     fn extend(&mut self, alloc: Global, pairs: &[Pair]) -> Result<()>
         ensures ok { OnOk result (list_pairs (pairs_in (held self.new))
             ≡ inserted_all (map pair_of pairs.now) (list_pairs (pairs_in (held self.old)))) }
@@ -252,8 +264,9 @@ pub trait ObjectCalls {
         ensures kept { ObjectStaysOnErr (held self.old) (held self.new) result }
         ensures only { OnlyNoMemory result };
 
-    /// The other's members, inserted in turn; the other has none then. Fails with `NoMemory`, and
-    /// changes nothing, if memory runs out.
+    /// Moves all members of `other` to this object, one after another: a key that is there gets the
+    /// new value, as by [`ObjectCalls::insert`]. `other` is empty afterwards. Fails with `NoMemory`
+    /// if memory runs out; the members of both objects stay as they were.
     fn append(&mut self, alloc: Global, other: &mut Object) -> Result<()>
         ensures ok { OnOk result (list_pairs (pairs_in (held self.new))
             ≡ inserted_all (pairs_in other.old) (list_pairs (pairs_in (held self.old)))) }
@@ -266,8 +279,8 @@ pub trait ObjectCalls {
             × ObjectStays other.old other.new) }
         ensures only { OnlyNoMemory result };
 
-    /// Takes out all members of the key. The value of the first. Fails with `NoMemory`, and changes
-    /// nothing, if memory runs out.
+    /// Removes all members named `key`, and returns the value of the first. Returns `None` if there
+    /// is no such member. Fails with `NoMemory` if memory runs out, and changes nothing then.
     fn remove(&mut self, alloc: Global, key: &str) -> Result<Option<Value>>
         ensures ok { OnOk result (list_pairs (pairs_in (held self.new))
             ≡ without_key key.now (list_pairs (pairs_in (held self.old)))) }
@@ -279,7 +292,9 @@ pub trait ObjectCalls {
         ensures free { (IsPlace (held self.old) → ⊥) → IsOk result }
         ensures only { OnlyNoMemory result };
 
-    /// The entry of the key. Fails with `NoMemory`, and changes nothing, if memory runs out.
+    /// Returns the entry of `key`: its first member, or the position where one can be inserted. It
+    /// lasts for as long as the object is borrowed. Fails with `NoMemory` if memory runs out; the
+    /// members stay as they were.
     fn entry(&mut self, alloc: Global, key: &str) -> Result<Entry<'_>>
         ensures* rests { sem 𝓛 (RestsIfErr Self.row self.entry
             (λ e. (entry_ref e).ghost_name) result

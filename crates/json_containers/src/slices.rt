@@ -10,7 +10,7 @@ use json_io::Result;
 use json_value::{Array, Value};
 use std::alloc::Global;
 
-// The elements, to be changed.
+// Returns the list of the elements, to be changed. Copies one level of a place of a document first.
 pub(crate) fn elements_of(array: &mut Array, alloc: Global) -> Result<&mut Vec<Value>>
     ensures* writes_back { sem 𝓛 (LendsSoOk array_row (vec_row value_row) array.entry result
         (λ n w. n ≡ owned w) (λ n. n ≡ array.old)) }
@@ -20,7 +20,7 @@ pub(crate) fn elements_of(array: &mut Array, alloc: Global) -> Result<&mut Vec<V
     Ok(list)
 }
 
-// All elements of the list, to be changed.
+// Returns all elements of the list, to be changed.
 pub(crate) fn slice_of(list: &mut Vec<Value>) -> &mut [Value]
     ensures* writes_back { sem 𝓛 (Lends (vec_row value_row) slice_row list.entry result
         (with_items list.old)) }

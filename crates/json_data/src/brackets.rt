@@ -20,7 +20,7 @@ pub(crate) fn skip_token<S: InputStr, T: Tokens<S>>(tokens: &mut T) -> Result<()
     Ok(())
 }
 
-/// What `open_container` does where the bracket is not found at once.
+/// Takes the opening bracket for `open_container` if the fast path for it did not.
 #[inline(never)]
 fn open_by_kind<S: InputStr, T: Tokens<S>>(tokens: &mut T, kind: Kind) -> Result<()>
     requires { WantsValue (T.state tokens.old) }

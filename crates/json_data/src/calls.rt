@@ -17,13 +17,14 @@ use json_tokens::{TextTokens, is_refusal};
 use std::alloc::Global;
 use std::str::from_utf8_unchecked;
 
-/// The most bytes of a text.
+/// The greatest number of bytes that a JSON text may have.
 const MOST: usize = 4_294_967_295;
 
-/// The most levels of a tree, where the caller chooses none (RFC 8259, section 9).
+/// The greatest number of nested arrays and objects if the caller chooses none (RFC 8259, section
+/// 9).
 const LEVELS: u32 = 254;
 
-// More bytes than a text may have.
+// Returns the error of an input with more bytes than a text may have.
 fn too_large_error() -> Error
     ensures { result ≡ spec_too_large }
 {
@@ -33,7 +34,7 @@ fn too_large_error() -> Error
     }
 }
 
-// The bytes as a text.
+// Returns the bytes as a text. Fails if they are too many or not UTF-8.
 fn utf8_text(json: &[u8]) -> Result<&str>
     ensures same { IfOk result (λ text. text.now ≡ json.now) }
     ensures valid { IfOk result (λ _. IsUtf8 json.now) }
@@ -75,12 +76,13 @@ fn read_text<'a, T: Deserialize<'a> + Drop>(alloc: Global, text: &'a str, depth:
     }
 }
 
-/// Reads a value of the type from a JSON text of at most 254 levels (RFC 8259).
+/// Reads a value of type `T` from a JSON text with at most 254 levels of nested arrays and objects
+/// (RFC 8259). The value may borrow from the text; `alloc` is for what it owns.
 ///
-/// Fails with `TooLarge` exactly above 4,294,967,295 bytes, else with the error of the whole text,
-/// if it has one. Only for a text that is valid it fails because its tree is no value of the type,
-/// at the beginning of the value: with `TypeUnmatched`, `NumberOutOfRange` or `ExpectedNumericKey`.
-/// Fails with `NoMemory` if memory runs out.
+/// Fails with `TooLarge` exactly if the text has more than 4,294,967,295 bytes. Otherwise fails
+/// with the error of the text, if it is no valid JSON text. A valid text whose value is no `T` is
+/// refused, at the beginning of the value: with `TypeUnmatched`, `NumberOutOfRange` or
+/// `ExpectedNumericKey`. Fails with `NoMemory` if memory runs out.
 pub fn from_str<'a, T: Deserialize<'a> + Drop>(alloc: Global, s: &'a str) -> Result<T>
     ensures ok { IfOk result (λ v. ReadsTypedText 254 T.from_tree s.now (gives (T.datum v))) }
     ensures place { IfOk result (T.placed IsPackedAtRoot) }
@@ -95,8 +97,8 @@ pub fn from_str<'a, T: Deserialize<'a> + Drop>(alloc: Global, s: &'a str) -> Res
     read_text(alloc, s, LEVELS)
 }
 
-/// Reads the value of the bytes of a JSON text, as [`from_str`] does. Fails with `InvalidUTF8` if
-/// they are no UTF-8, before any fault of the text, and otherwise as [`from_str`] does.
+/// Reads a value of type `T` from the bytes of a JSON text. Fails with `InvalidUTF8` if they are
+/// not UTF-8, before any other error of the text, and otherwise as [`from_str`] does.
 pub fn from_slice<'a, T: Deserialize<'a> + Drop>(alloc: Global, json: &'a [u8]) -> Result<T>
     ensures ok { ReadsTypedValue T.from_tree T.datum json.now result }
     ensures place { IfOk result (T.placed IsPackedAtRoot) }
@@ -108,8 +110,8 @@ pub fn from_slice<'a, T: Deserialize<'a> + Drop>(alloc: Global, json: &'a [u8]) 
     read_text(alloc, text, LEVELS)
 }
 
-/// Reads the value of bytes that are UTF-8, as [`from_slice`] does, without a test of that. Fails
-/// as [`from_str`] does.
+/// Reads a value of type `T` from the bytes of a JSON text that are known to be UTF-8, and does not
+/// test that. Fails as [`from_str`] does.
 pub fn from_slice_unchecked<'a, T: Deserialize<'a> + Drop>(
     alloc: Global,
     json: &'a [u8],
@@ -124,8 +126,8 @@ pub fn from_slice_unchecked<'a, T: Deserialize<'a> + Drop>(
     from_str(alloc, unsafe { from_utf8_unchecked(json) })
 }
 
-// The value of a text in which the names of each object have to differ. They are compared in a pass
-// of its own, which packs a document.
+// Reads a value from a text in which the names of each object have to differ. They are compared in
+// a pass of its own, which packs a document.
 fn read_unique<'a, T: Deserialize<'a> + Drop>(
     alloc: Global,
     text: &'a str,
@@ -143,10 +145,12 @@ fn read_unique<'a, T: Deserialize<'a> + Drop>(
     read_text(alloc, text, rules.depth())
 }
 
-/// Reads a value from the bytes of a JSON text by rules, as [`from_slice`] does: the text has no
-/// more levels than they allow, and where they ask for unique names no object has a name twice (RFC
-/// 8259, sections 9 and 4). Of a bracket that opens a level too many and a name that repeats the
-/// first is reported, and either before every other error.
+/// Reads a value of type `T` from the bytes of a JSON text by rules that the caller chooses: how
+/// many levels the text may have, and whether the names within an object have to differ (RFC 8259,
+/// sections 9 and 4).
+///
+/// Fails as [`from_slice`] does, but for these rules. If a bracket opens a level too many or a name
+/// repeats, the first of them is reported; each may be reported before any other error.
 pub fn from_slice_with<'a, T: Deserialize<'a> + Drop>(
     alloc: Global,
     json: &'a [u8],
@@ -183,8 +187,8 @@ fn read_source<S: Source>(alloc: Global, source: &mut S, room: &mut Vec<u8>) -> 
     Ok(())
 }
 
-/// Reads the value of all that the source has left, as [`from_slice`] does. The bytes go into
-/// `room`, from which the value may borrow; those that it had are dropped.
+/// Reads all bytes that are left in `source`, and a value of type `T` from them as from a JSON
+/// text. The bytes replace what `room` had; the value may borrow from `room`.
 ///
 /// Fails with `Io` at `Reading` if the source failed, and with `TooLarge` if it has more than
 /// 4,294,967,295 bytes; `room` is then as it was. Otherwise fails as [`from_slice`] does.

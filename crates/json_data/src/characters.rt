@@ -13,7 +13,7 @@ use json_io::{ErrorCode, Result};
 use json_tokens::{InputStr, Piece, TokenKind, Tokens, error_without_place};
 use std::alloc::Global;
 
-// The character of a text that has one alone.
+// Returns the character of a text that has exactly one, and `None` for every other text.
 pub(crate) fn only_char(text: &str) -> Option<char>
     ensures { MatchOption result (length (chars text.now) ≢ 1)
         (λ c. (text.now ≡ encode_utf8 c) × (length (chars text.now) ≡ 1)) }

@@ -14,7 +14,7 @@ use json_tokens::{InputStr, Tokens};
 use json_value::{ArrayView, Edit, Path, Text, View};
 use std::alloc::Global;
 
-// The text of the first element; none where there is no such text.
+// Returns the first element if it is a string, and `None` otherwise.
 fn edit_name<'a>(array: ArrayView<'a>) -> Option<&'a str>
     ensures { option_map (λ s. s.now) result
         ≡ option_and_then string_of (slice_get (elements_seen array.entry) 0) }
@@ -25,7 +25,7 @@ fn edit_name<'a>(array: ArrayView<'a>) -> Option<&'a str>
     }
 }
 
-// The two elements after the first; none where there are fewer or more.
+// Returns the two elements after the first, or `None` if there are fewer or more.
 fn two_after_name<'a>(array: ArrayView<'a>) -> Option<(View<'a>, View<'a>)>
     ensures { MatchOption result (length (drop 1 (elements_seen array.entry)) ≢ 2)
         (λ p. drop 1 (elements_seen array.entry) ≡ seen p.0 ∷ seen p.1 ∷ []) }
@@ -38,7 +38,7 @@ fn two_after_name<'a>(array: ArrayView<'a>) -> Option<(View<'a>, View<'a>)>
     Some((first, second))
 }
 
-// The three elements after the first; none where there are fewer or more.
+// Returns the three elements after the first, or `None` if there are fewer or more.
 fn three_after_name<'a>(array: ArrayView<'a>) -> Option<(View<'a>, View<'a>, View<'a>)>
     ensures { MatchOption result (length (drop 1 (elements_seen array.entry)) ≢ 3)
         (λ p. drop 1 (elements_seen array.entry) ≡ seen p.0 ∷ seen p.1 ∷ seen p.2 ∷ []) }
@@ -52,7 +52,7 @@ fn three_after_name<'a>(array: ArrayView<'a>) -> Option<(View<'a>, View<'a>, Vie
     Some((first, second, third))
 }
 
-// `["set", path, value]`
+// Reads the edit `["set", path, value]`.
 fn read_set(alloc: Global, array: ArrayView<'_>) -> Result<Edit>
     ensures ok { IfOk result (λ e.
         edit_named (codes "set") (drop 1 (elements_seen array.entry)) ≡ Some (edit_of e)) }
@@ -67,7 +67,7 @@ fn read_set(alloc: Global, array: ArrayView<'_>) -> Result<Edit>
     Ok(Edit::Set { path, value })
 }
 
-// `["push", path, value]`
+// Reads the edit `["push", path, value]`.
 fn read_push(alloc: Global, array: ArrayView<'_>) -> Result<Edit>
     ensures ok { IfOk result (λ e.
         edit_named (codes "push") (drop 1 (elements_seen array.entry)) ≡ Some (edit_of e)) }
@@ -82,7 +82,7 @@ fn read_push(alloc: Global, array: ArrayView<'_>) -> Result<Edit>
     Ok(Edit::Push { path, value })
 }
 
-// `["remove", path, step]`
+// Reads the edit `["remove", path, step]`.
 fn read_remove(alloc: Global, array: ArrayView<'_>) -> Result<Edit>
     ensures ok { IfOk result (λ e.
         edit_named (codes "remove") (drop 1 (elements_seen array.entry)) ≡ Some (edit_of e)) }
@@ -97,7 +97,7 @@ fn read_remove(alloc: Global, array: ArrayView<'_>) -> Result<Edit>
     Ok(Edit::Remove { path, step })
 }
 
-// `["insert", path, key, value]`
+// Reads the edit `["insert", path, key, value]`.
 fn read_insert(alloc: Global, array: ArrayView<'_>) -> Result<Edit>
     ensures ok { IfOk result (λ e.
         edit_named (codes "insert") (drop 1 (elements_seen array.entry)) ≡ Some (edit_of e)) }
@@ -116,7 +116,7 @@ fn read_insert(alloc: Global, array: ArrayView<'_>) -> Result<Edit>
     Ok(Edit::Insert { path, key, value })
 }
 
-// The edit that is seen.
+// Reads an edit from the value that is seen.
 fn read_edit(alloc: Global, view: View<'_>) -> Result<Edit>
     ensures ok { IfOk result (λ e. edit_in (seen view.entry) ≡ Some (edit_of e)) }
     ensures err { IfErr result (Unspelled (edit_in (seen view.entry))) }

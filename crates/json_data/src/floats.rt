@@ -13,14 +13,14 @@ use json_number::{Integer, JsonNumberTrait, Number, f32_of, f64_of};
 use json_tokens::{InputStr, TokenKind, Tokens, error_without_place};
 use std::alloc::Global;
 
-/// Returns the double nearest to an integer by value.
+/// Returns the double nearest to an integer of 64 bits.
 fn integer_f64(n: Number) -> Option<f64>
     ensures { result ≡ float_in binary64 (text_of_number n) }
 {
     n.as_f64()
 }
 
-/// Returns the `f32` nearest to an integer by value, which is rounded once.
+/// Returns the `f32` nearest to an integer of 64 bits, which is rounded once.
 fn integer_f32(n: Number) -> Option<f32>
     ensures { result ≡ float_in binary32 (text_of_number n) }
 {
@@ -31,9 +31,9 @@ fn integer_f32(n: Number) -> Option<f32>
     }
 }
 
-/// Reads the double nearest to a number, of two that are equally near the even one. A number whose
-/// nearest double is infinite is refused with `NumberOutOfRange`, and another value with
-/// `TypeUnmatched`.
+/// Reads the double that is nearest to a number; of two that are equally near, the one whose last
+/// bit is 0. Fails with `NumberOutOfRange` for a number whose nearest double is infinite, and with
+/// `TypeUnmatched` for a value that is no number.
 impl<S: InputStr> DeserializeFrom<S> for f64 {
     ghost datum = { λ x. float_datum x };
 
@@ -61,9 +61,9 @@ impl<S: InputStr> DeserializeFrom<S> for f64 {
     }
 }
 
-/// Reads the `f32` nearest to a number, of two that are equally near the even one. It is rounded
-/// once, and not by way of an `f64`. A number whose nearest `f32` is infinite is refused with
-/// `NumberOutOfRange`, and another value with `TypeUnmatched`.
+/// Reads the `f32` that is nearest to a number; of two that are equally near, the one whose last
+/// bit is 0. It is rounded once, not by way of an `f64`. Fails with `NumberOutOfRange` for a number
+/// whose nearest `f32` is infinite, and with `TypeUnmatched` for a value that is no number.
 impl<S: InputStr> DeserializeFrom<S> for f32 {
     ghost datum = { λ x. float_datum x };
 

@@ -20,7 +20,7 @@ use json_text::is_number;
 use json_tokens::{InputStr, Piece, error_without_place};
 use std::alloc::Global;
 
-// The integer of a key that is a number.
+// Returns the integer that a key has the text of. Fails if the key is no number.
 fn key_whole<S: InputStr>(alloc: Global, key: Piece<S>) -> Result<IntegerLiteral>
     ensures ok { IfOk result (λ w. (s : List ℕ) → Says s key.escaped (S.bytes key.text)
         → (spec_is_number s ≡ true) × IsIntegerLiteral (whole_in s) w) }
@@ -35,7 +35,7 @@ fn key_whole<S: InputStr>(alloc: Global, key: Piece<S>) -> Result<IntegerLiteral
     Ok(integer_literal(literal))
 }
 
-// The integer of a key, from -low on and below high.
+// Reads a key that is an integer, at least `-low` and below `high`.
 fn key_between<S: InputStr>(alloc: Global, key: Piece<S>, low: u128, high: u128) -> Result<i128>
     requires low { low ≤ 2 ^ 127 }
     requires high { high ≤ 2 ^ 127 }

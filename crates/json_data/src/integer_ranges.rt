@@ -16,7 +16,7 @@ use json_io::{ErrorCode, Result};
 use json_number::{Integer, IntegerLiteral, Number, integer_literal};
 use json_tokens::{InputStr, Token, TokenKind, Tokens, error_without_place};
 
-/// A number by value.
+/// Returns a number of 64 bits as an `IntegerLiteral`.
 #[inline(always)]
 pub(crate) fn whole_of_number(n: Number) -> IntegerLiteral
     ensures { (o : Option ℤ) → o ≡ Some (value_of n) → IsIntegerLiteral o result }
@@ -60,7 +60,7 @@ pub(crate) fn next_raw<S: InputStr, T: Tokens<S>>(tokens: &mut T) -> Result<S>
     }
 }
 
-/// Returns the integer of the next tree.
+/// Takes the next value, and returns which integer it is, if it is one.
 #[inline(always)]
 pub(crate) fn read_whole<S: InputStr, T: Tokens<S>>(tokens: &mut T) -> Result<IntegerLiteral>
     requires { WantsValue (T.state tokens.old) }
@@ -81,7 +81,7 @@ pub(crate) fn read_whole<S: InputStr, T: Tokens<S>>(tokens: &mut T) -> Result<In
     Ok(IntegerLiteral::NotInteger)
 }
 
-/// An integer from -low on and below high, of at most 127 bits and a sign.
+/// Returns the integer if it is at least `-low` and below `high`. Fails if it is not in that range.
 #[inline(always)]
 pub(crate) fn integer_in_range(whole: IntegerLiteral, low: u128, high: u128) -> Result<i128>
     requires low { low ≤ 2 ^ 127 }
@@ -102,7 +102,8 @@ pub(crate) fn integer_in_range(whole: IntegerLiteral, low: u128, high: u128) -> 
     }
 }
 
-/// The next integer from 0 to `most`, where it is found at once.
+/// Takes the next integer from 0 to `most` by the fast path of the source. Returns `None`, and
+/// takes nothing, if that does not read it.
 #[inline(always)]
 pub(crate) fn integer_at_once<S: InputStr, T: Tokens<S>>(tokens: &mut T, most: u64) -> Option<u64>
     requires { NotWhole (T.state tokens.old) }
@@ -125,7 +126,8 @@ fn negated(magnitude: u64) -> i128
     -(magnitude as i128)
 }
 
-/// The next integer below 0 and from `-least` on, where it is found at once.
+/// Takes the next integer below 0 and at least `-least` by the fast path of the source. Returns
+/// `None`, and takes nothing, if that does not read it.
 #[inline(always)]
 fn negative_at_once<S: InputStr, T: Tokens<S>>(tokens: &mut T, least: u64) -> Option<i128>
     requires whole { NotWhole (T.state tokens.old) }
@@ -142,7 +144,8 @@ fn negative_at_once<S: InputStr, T: Tokens<S>>(tokens: &mut T, least: u64) -> Op
     }
 }
 
-/// The next integer from `-half` on and below `half`, where it is found at once.
+/// Takes the next integer that is at least `-half` and below `half` by a fast path of the source.
+/// Returns `None`, and takes nothing, if none reads it.
 #[inline(always)]
 pub(crate) fn signed_at_once<S: InputStr, T: Tokens<S>>(tokens: &mut T, half: u64) -> Option<i128>
     requires whole { NotWhole (T.state tokens.old) }
@@ -161,7 +164,7 @@ pub(crate) fn signed_at_once<S: InputStr, T: Tokens<S>>(tokens: &mut T, half: u6
     }
 }
 
-/// The greatest magnitude of an integer from `-low` on that has 64 bits.
+/// Returns a magnitude that is at most `low` and at most 2^63.
 #[inline(always)]
 fn least_of(low: u128) -> u64
     ensures { (result ≤ low) × (result ≤ 2 ^ 63) }
@@ -173,7 +176,7 @@ fn least_of(low: u128) -> u64
     }
 }
 
-/// The most that is below high and has 64 bits.
+/// Returns a number of 64 bits below `high`: the greatest.
 #[inline(always)]
 fn most_below(high: u128) -> u64
     requires { 0 < high }
@@ -186,7 +189,7 @@ fn most_below(high: u128) -> u64
     }
 }
 
-/// What `read_between` does where no integer is found at once.
+/// Reads an integer for `read_between` if the fast paths return nothing.
 #[inline(never)]
 fn between_by_kind<S: InputStr, T: Tokens<S>>(tokens: &mut T, low: u128, high: u128) -> Result<i128>
     requires wants { WantsValue (T.state tokens.old) }
@@ -206,7 +209,7 @@ fn between_by_kind<S: InputStr, T: Tokens<S>>(tokens: &mut T, low: u128, high: u
     }
 }
 
-/// What `read_between` does where no integer from 0 on is found at once.
+/// Reads an integer for `read_between` if no integer from 0 on was read by the fast path.
 #[inline(never)]
 fn negative_or_by_kind<S: InputStr, T: Tokens<S>>(
     tokens: &mut T,
@@ -229,7 +232,7 @@ fn negative_or_by_kind<S: InputStr, T: Tokens<S>>(
     between_by_kind(tokens, low, high)
 }
 
-/// The next integer, from -low on and below high.
+/// Reads the next integer, which has to be at least `-low` and below `high`.
 #[inline(always)]
 pub(crate) fn read_between<S: InputStr, T: Tokens<S>>(
     tokens: &mut T,
@@ -252,7 +255,7 @@ pub(crate) fn read_between<S: InputStr, T: Tokens<S>>(
     negative_or_by_kind(tokens, low, high)
 }
 
-/// An integer from 0 on, of at most 128 bits.
+/// Returns the integer if it is at least 0 and has at most 128 bits.
 pub(crate) fn fit_unsigned(whole: IntegerLiteral) -> Result<u128>
     ensures ok { (o : Option ℤ) → IsIntegerLiteral o whole → IfOk result (λ n. o ≡ Some (pos n)) }
     ensures within { IfOk result (λ n. n < 2 ^ 128) }

@@ -19,7 +19,7 @@ use json_tokens::{InputStr, Piece, Token, TokenKind, Tokens, error_without_place
 use std::alloc::Global;
 use std::borrow::CowStr;
 
-/// A key of a map, read from the text of a name.
+/// A type of map keys, each of which is read from the name of an object's member.
 ///
 /// ```
 /// use json_data::{FromKey, Piece};
@@ -27,24 +27,24 @@ use std::borrow::CowStr;
 /// assert!(rt; <u16 as FromKey<&str>>::from_key(alloc, &Piece::plain("born")).is_err());
 /// ```
 pub trait FromKey<S: InputStr>: Sized + Ord {
-    /// What a key means.
+    /// What a key means as data: a text, an integer or a boolean.
     ghost key_datum: { Self → Datum };
 
-    /// What the reading of a text returns.
+    /// What reading a name returns: a datum, or the code of the error that refuses the name.
     ghost from_text: { List ℕ → Reading };
 
-    /// Reads the key from a text. Fails without a place if the text is no such key, and with
-    /// `NoMemory` if memory runs out.
+    /// Reads a key from a name, which may have escapes that are not read yet. Fails without a place
+    /// if the name is no such key, and with `NoMemory` if memory runs out.
     fn from_key(alloc: Global, key: &Piece<S>) -> Result<Self>
         ensures ok { IfOk result (λ k. (s : List ℕ) → Says s key.now.escaped (S.bytes key.now.text)
             → from_text s ≡ gives (key_datum k)) }
         ensures err { IfErr result (λ e.
             KeyReadingFails (λ s. Says s key.now.escaped (S.bytes key.now.text)) from_text e) };
 
-    /// No key means null.
+    /// That no key means null.
     ghost named: { (s : List ℕ) → IsNamed (from_text s) };
 
-    /// Keys of texts are ordered by what they mean.
+    /// That keys which are read from names are ordered by what they mean.
     ghost orders: { (a b : Self) (s r : List ℕ) → from_text s ≡ gives (key_datum a)
         → from_text r ≡ gives (key_datum b) → Self.cmp a b ≡ key_cmp (key_datum a) (key_datum b) };
 }

@@ -13,39 +13,39 @@ pub use json_tokens::laws::{
 };
 use std::alloc::Global;
 
-/// Trees with the same datum are the same tree.
+/// Shows that trees which mean the same datum are the same tree.
 pub fn same_tree_of_datum()
     ensures { SameDatum }
 {}
 
-/// Paths with the same datum are the same path.
+/// Shows that paths which mean the same datum are the same path.
 pub fn same_path()
     ensures { SamePath }
 {}
 
-/// Edits with the same datum are the same edit.
+/// Shows that edits which mean the same datum are the same edit.
 pub fn same_edit()
     ensures { SameEdit }
 {}
 
-/// Floats with the same datum are the same float.
+/// Shows that floats which mean the same datum are the same float.
 pub fn same_float()
     ensures { SameFloat }
 {}
 
-/// A number is read as the float nearest to it, where that is finite, and is out of range
-/// otherwise.
+/// Shows that a number is read as the float nearest to it if that is finite, and is refused as out
+/// of range otherwise.
 pub fn reads_nearest_float()
     ensures { ReadsNearestFloat }
 {}
 
-/// An integer by value is read as the double nearest to it.
+/// Shows that an integer in `i64` or `u64` is read as the double nearest to it.
 pub fn reads_integer_as_double()
     ensures { ReadsIntegerAsDouble }
 {}
 
-/// The number of a finite double is read as that double, also -0. Fails with `NoMemory` if memory
-/// runs out.
+/// Returns the number of `x` if `x` is finite. Its contract shows that reading the number returns
+/// `x` again, also for -0. Fails with `NoMemory` if memory runs out.
 pub fn double_is_read_again(alloc: Global, x: f64) -> Result<Option<RawNumber>>
     ensures read { IfOk result (λ o. IfSome o (λ r. IsReadAs binary64 (raw_literal r) x)) }
     ensures err { OnlyNoMemory result }
@@ -53,8 +53,8 @@ pub fn double_is_read_again(alloc: Global, x: f64) -> Result<Option<RawNumber>>
     RawNumber::from_f64(alloc, x)
 }
 
-/// The number of a finite `f32` is read as that `f32`, also -0. Fails with `NoMemory` if memory
-/// runs out.
+/// Returns the number of `x` if `x` is finite. Its contract shows that reading the number returns
+/// `x` again, also for -0. Fails with `NoMemory` if memory runs out.
 pub fn single_is_read_again(alloc: Global, x: f32) -> Result<Option<RawNumber>>
     ensures read { IfOk result (λ o. IfSome o (λ r. IsReadAs binary32 (raw_literal r) x)) }
     ensures err { OnlyNoMemory result }

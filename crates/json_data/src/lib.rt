@@ -1,5 +1,6 @@
-//! Typed reading of JSON: values of many types from the tokens of a text or of a value. It also
-//! exports what `json_tokens` does.
+//! Typed reading of JSON: reads values of many Rust types from the tokens of a JSON text or of a
+//! `Value`. A JSON value that is no value of the type that is asked for is refused. It also exports
+//! what `json_tokens` does.
 //!
 //! ```
 //! use json_data::from_str;

@@ -18,7 +18,7 @@ use json_tokens::{InputStr, Tokens, error_without_place};
 use std::alloc::Global;
 use std::collections::BTreeMap;
 
-/// What is left of a map whose beginning was taken.
+/// Reads the members of a map whose beginning was taken, and takes its end.
 #[inline(never)]
 fn read_rows<S: InputStr, K: FromKey<S> + Drop, V: DeserializeFrom<S> + Drop, T: Tokens<S>>(
     alloc: Global,

@@ -18,7 +18,8 @@ use json_io::Result;
 use json_tokens::{InputStr, Piece, Tokens};
 use std::alloc::Global;
 
-/// What is read so far of the members of an object.
+/// What was read so far of an object, for [`read_members`]: a type that takes the members one after
+/// another.
 ///
 /// ```
 /// use json_data::{InputStr, Members, TextTokens, Tokens, read_members};
@@ -45,14 +46,15 @@ use std::alloc::Global;
 /// assert_eq!(rt; count.0, 2);
 /// ```
 pub trait Members<S: InputStr>: Sized {
-    /// What it means.
+    /// What the members that were read so far mean as data.
     ghost so_far: { Self → Datum };
 
-    /// What is read after that, of a name and its value.
+    /// What is read once one more member was taken, given what was read so far, the name and the
+    /// value: a datum, or the code of the error that refuses the member.
     ghost step: { Datum → List ℕ → Tree → Reading };
 
-    /// Takes the value of the member of that name: it is read, or skipped where the name is
-    /// unknown. If the value is refused, the whole of it was taken.
+    /// Takes the value of the member `name` from `tokens`: reads it, or skips it if the name is
+    /// unknown. If it is refused, all its tokens were taken.
     fn member<T: Tokens<S>>(&mut self, alloc: Global, name: &str, tokens: &mut T) -> Result<()>
         requires { WantsValue (T.state tokens.old) }
         ensures ok { OnOk result (ReadsTree T.taken T.state (step (so_far self.old) name.now)
@@ -110,9 +112,10 @@ fn read_rest<S: InputStr, M: Members<S>, T: Tokens<S>>(
     }
 }
 
-/// Reads an object, each member in its order. Fails with `TypeUnmatched` if the next value is no
-/// object. If a member is refused, the rest of the object is read first. Fails with `NoMemory` if a
-/// name that has an escape cannot be copied.
+/// Reads an object: passes each member to `members`, in the order of the text. Fails with
+/// `TypeUnmatched` if the next value is no object. If a member is refused, the rest of the object
+/// is taken before its error is returned. Fails with `NoMemory` if a name with escapes cannot be
+/// copied, and otherwise as the source of tokens does.
 #[inline(always)]
 pub fn read_members<S: InputStr, M: Members<S>, T: Tokens<S>>(
     alloc: Global,
@@ -130,8 +133,9 @@ pub fn read_members<S: InputStr, M: Members<S>, T: Tokens<S>>(
     read_rest(alloc, members, tokens)
 }
 
-/// Takes an object as `read_members` does if its beginning is found at once, and returns whether it
-/// was. Otherwise nothing is taken, and the members are as they were. Fails as `read_members` does.
+/// Reads an object as [`read_members`] does if the fast path [`Tokens::begins`] of the source finds
+/// its beginning. Returns whether an object was read. If not, nothing was taken and `members` is as
+/// it was. Fails as [`read_members`] does.
 #[inline(always)]
 pub fn try_read_members<S: InputStr, M: Members<S>, T: Tokens<S>>(
     alloc: Global,

@@ -14,21 +14,21 @@ use json_tokens::error_without_place;
 use json_value::{ArrayView, Path, PointerNode, Text, View};
 use std::alloc::Global;
 
-/// The refusal of a value that spells something else.
+/// Returns the error of a value that is no step, path or edit.
 pub(crate) fn unspelled() -> Error
     ensures { result ≡ spec_refusal ErrorCode.TypeUnmatched }
 {
     error_without_place(ErrorCode::TypeUnmatched)
 }
 
-// The index that an integer is; none below 0, and from 2^32 on.
+// Returns the integer as an index, or `None` if it is below 0 or at least 2^32.
 fn read_index(number: Number) -> Option<u32>
     ensures { result ≡ index_of (value_of number) }
 {
     u32::try_from(number.as_u64()?).ok()
 }
 
-/// The step that is seen: a key or an index.
+/// Reads a step of a path: a string is a key, and an integer is an index.
 pub(crate) fn read_step(alloc: Global, view: View<'_>) -> Result<PointerNode>
     ensures ok { IfOk result (λ s. step_in (seen view.entry) ≡ Some (step_of s)) }
     ensures err { IfErr result (Unspelled (step_in (seen view.entry))) }
@@ -45,7 +45,7 @@ pub(crate) fn read_step(alloc: Global, view: View<'_>) -> Result<PointerNode>
     Err(unspelled())
 }
 
-// The path of which the elements are the steps.
+// Reads a path whose steps are the elements of the array.
 fn read_steps(alloc: Global, array: ArrayView<'_>) -> Result<Path>
     ensures ok { IfOk result (λ p.
         each_in step_in (elements_seen array.entry) ≡ Some (path_steps p)) }
@@ -59,7 +59,7 @@ fn read_steps(alloc: Global, array: ArrayView<'_>) -> Result<Path>
     Ok(path)
 }
 
-/// The path that is seen: an array of steps.
+/// Reads a path: an array of steps.
 pub(crate) fn read_path(alloc: Global, view: View<'_>) -> Result<Path>
     ensures ok { IfOk result (λ p. path_in (seen view.entry) ≡ Some (path_steps p)) }
     ensures err { IfErr result (Unspelled (path_in (seen view.entry))) }

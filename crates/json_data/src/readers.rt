@@ -22,7 +22,7 @@ use json_tokens::{
 use std::alloc::Global;
 use std::borrow::CowStr;
 
-// What `bool` does where no boolean is found at once.
+// Reads a boolean if the fast path for it returned nothing.
 #[inline(never)]
 fn boolean_by_kind<S: InputStr, T: Tokens<S>>(tokens: &mut T) -> Result<bool>
     requires { WantsValue (T.state tokens.old) }
@@ -80,7 +80,7 @@ pub(crate) fn next_text<S: InputStr, T: Tokens<S>>(tokens: &mut T) -> Result<Pie
     }
 }
 
-// What `expect_text` does where the text is not found at once.
+// Returns the next string for `expect_text` if the fast path for it returned nothing.
 #[inline(never)]
 fn text_by_kind<S: InputStr, T: Tokens<S>>(tokens: &mut T) -> Result<Piece<S>>
     requires { WantsValue (T.state tokens.old) }
@@ -141,7 +141,7 @@ impl<'de> DeserializeFrom<&'de str> for CowStr<'de> {
     }
 }
 
-// What `Option` does where no value is found at once.
+// Reads an optional value if the fast paths for it returned nothing.
 #[inline(always)]
 fn option_by_kind<S: InputStr, V: DeserializeFrom<S>, T: Tokens<S>>(
     alloc: Global,
@@ -210,7 +210,7 @@ impl<S: InputStr> DeserializeFrom<S> for () {
     }
 }
 
-/// Any value, which is thrown away.
+/// Reads any value and keeps nothing of it: a type for values that are to be skipped.
 ///
 /// ```
 /// use json_data::{IgnoredAny, from_str};
@@ -232,9 +232,10 @@ impl<S: InputStr> DeserializeFrom<S> for IgnoredAny {
     }
 }
 
-/// Returns the error, which was met within an array or an object. If it is a refusal, first takes
-/// what is left of the innermost open container, its end included, and returns the error of that
-/// where it fails.
+/// Returns the error with which a reader of an array or an object ends, given the error `e` of one
+/// of its parts. If `e` is a refusal (a part is no value of its type), this first takes what is
+/// left of the innermost open container, its end included; if that fails, its error is returned.
+/// Otherwise takes nothing and returns `e`.
 #[cold]
 #[inline(never)]
 pub fn leave_after<S: InputStr, T: Tokens<S>>(tokens: &mut T, e: Error) -> Error
@@ -254,7 +255,7 @@ pub fn leave_after<S: InputStr, T: Tokens<S>>(tokens: &mut T, e: Error) -> Error
     }
 }
 
-/// What `next_element` does where no element is found at once.
+/// Reads the next element for `next_element` if its fast paths return nothing.
 #[inline(always)]
 fn element_by_kind<S: InputStr, V: DeserializeFrom<S>, T: Tokens<S>>(
     alloc: Global,
@@ -282,7 +283,7 @@ fn element_by_kind<S: InputStr, V: DeserializeFrom<S>, T: Tokens<S>>(
     Ok(Some(element))
 }
 
-/// Reads the next element of a list, or returns `None` if the list ends, whose end is taken.
+/// Reads the next element of an array. Returns `None` if the array ends, and takes its end.
 #[inline(always)]
 fn next_element<S: InputStr, V: DeserializeFrom<S>, T: Tokens<S>>(
     alloc: Global,
@@ -302,7 +303,7 @@ fn next_element<S: InputStr, V: DeserializeFrom<S>, T: Tokens<S>>(
     element_by_kind(alloc, tokens)
 }
 
-/// What is left of a list whose beginning was taken.
+/// Reads the elements of an array whose beginning was taken, and takes its end.
 #[inline(never)]
 fn read_elements<S: InputStr, V: DeserializeFrom<S> + Drop, T: Tokens<S>>(
     alloc: Global,
@@ -364,7 +365,7 @@ impl<S: InputStr, V: DeserializeFrom<S> + Drop> DeserializeFrom<S> for Vec<V> {
     }
 }
 
-/// What is left of a list of two whose beginning was taken.
+/// Reads the two elements of an array whose beginning was taken, and takes its end.
 #[inline(always)]
 fn read_two<S: InputStr, A: DeserializeFrom<S> + Drop, B: DeserializeFrom<S> + Drop, T: Tokens<S>>(
     alloc: Global,

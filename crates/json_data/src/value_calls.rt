@@ -12,9 +12,9 @@ use json_tokens::ValueTokens;
 use json_value::Value;
 use std::alloc::Global;
 
-/// Reads a value of the type from a `Value`. Fails without a place if its tree is no value of the
-/// type: with `TypeUnmatched`, `NumberOutOfRange` or `ExpectedNumericKey`. Fails with `NoMemory` if
-/// memory runs out.
+/// Reads a value of type `T` from a `Value`, from which it may borrow. Fails if the `Value` is no
+/// `T`: with `TypeUnmatched`, `NumberOutOfRange` or `ExpectedNumericKey`, without a place. Fails
+/// with `NoMemory` if memory runs out.
 pub fn from_value<'a, T: Deserialize<'a>>(alloc: Global, value: &'a Value) -> Result<T>
     ensures ok { IfOk result (λ v. T.from_tree (tree_of value.now) ≡ gives (T.datum v)) }
     ensures place { IfOk result (T.placed (IsMadeOf (whole_value value.now))) }

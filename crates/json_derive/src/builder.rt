@@ -13,7 +13,8 @@ use json_io::{ErrorCode, Result};
 use json_tokens::{InputStr, Tokens, error_without_place};
 use std::alloc::Global;
 
-/// The members of a struct, as far as they were read. `tools/derive` writes the impls.
+/// The fields of a struct as far as they were read from the members of an object, each of which may
+/// still be missing. `tools/derive` writes the impls.
 ///
 /// ```
 /// use json_data::from_str;
@@ -23,24 +24,26 @@ use std::alloc::Global;
 /// assert!(rt; ada.phones.is_empty());
 /// ```
 pub trait Builder<S: InputStr>: Sized {
-    /// The struct.
+    /// The struct that is built.
     type Built;
 
-    /// Its fields.
+    /// The fields of the struct, and whether members of other names are refused.
     ghost shape: { Struct };
 
-    /// What was read of each field so far.
+    /// What was read so far of each field.
     ghost so_far: { Self → Data };
 
-    /// What the fields of the struct mean.
+    /// What the fields of the struct mean as data.
     ghost values: { Self.Built → List Datum };
 
-    /// Returns a builder of which no member was read.
+    /// Creates a builder for which no member was read yet.
     fn new() -> Self
         ensures { so_far result ≡ no_members shape.fields };
 
-    /// Takes the value of the member of that name. If the value is refused, the whole of it was
-    /// taken.
+    /// Takes the value of the member `name` from `tokens`, and keeps what it reads for the field of
+    /// that name. If no field has the name, the value is skipped, or refused if the struct is
+    /// strict. All tokens of a refused value were taken. Fails with the refusal, as the source of
+    /// tokens does, or with `NoMemory`.
     fn member<T: Tokens<S>>(&mut self, alloc: Global, name: &str, tokens: &mut T) -> Result<()>
         requires { WantsValue (T.state tokens.old) }
         ensures ok { OnOk result (ReadsTree T.taken T.state
@@ -49,7 +52,7 @@ pub trait Builder<S: InputStr>: Sized {
         ensures err { IfErr result (λ e. StopsReading T.taken T.state
             (struct_step shape (list_datum (so_far self.old)) name.now) tokens.old tokens.new e) };
 
-    /// Returns the struct. Fails with `TypeUnmatched` if a member that must be there is missing,
+    /// Returns the struct. Fails with `TypeUnmatched` if a member is missing that has to be there,
     /// and with `NoMemory` if memory for a default runs out.
     fn build(self, alloc: Global) -> Result<Self::Built>
         ensures ok { IfOk result (λ v. made_struct shape (list_datum (so_far self))
@@ -74,8 +77,8 @@ impl<S: InputStr, B: Builder<S>> Members<S> for Building<B> {
     }
 }
 
-/// Returns the value of a field whose member must be there. Fails with `TypeUnmatched` if it is
-/// missing.
+/// Returns the value of a field whose member has to be there: what `value` holds. Fails with
+/// `TypeUnmatched`, without a place, if it is `None`.
 pub fn required<V>(value: Option<V>) -> Result<V>
     ensures ok { IfOk result (λ v. value ≡ Some v) }
     ensures err { IfErr result (λ e.
@@ -87,9 +90,11 @@ pub fn required<V>(value: Option<V>) -> Result<V>
     }
 }
 
-/// Takes an object and returns the struct of its members. Fails with `TypeUnmatched` if the next
-/// value is no object or a member is missing. If a member is refused, the rest of the object is
-/// read first.
+/// Reads an object and returns the struct that the builder `B` builds of its members. Fails with
+/// `TypeUnmatched` if the next value is no object, or if a member is missing that has to be there.
+/// If a member is refused (it is no value of its field's type), the rest of the object is taken
+/// before its error is returned. Fails as the source of tokens does, or with `NoMemory` if memory
+/// runs out.
 pub fn read_struct<S: InputStr, B: Builder<S> + Drop, T: Tokens<S>>(
     alloc: Global,
     tokens: &mut T,
@@ -112,8 +117,9 @@ pub fn read_struct<S: InputStr, B: Builder<S> + Drop, T: Tokens<S>>(
     }
 }
 
-/// Takes an object as `read_struct` does where its beginning is found at once. Else nothing is
-/// taken, and the result is `None`. Fails as `read_struct` does.
+/// Reads a struct as [`read_struct`] does if the fast path [`Tokens::begins`] of the source finds
+/// the beginning of an object. Otherwise returns `None` and takes nothing. Fails as [`read_struct`]
+/// does.
 pub fn try_read_struct<S: InputStr, B: Builder<S> + Drop, T: Tokens<S>>(
     alloc: Global,
     tokens: &mut T,

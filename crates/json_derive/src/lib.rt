@@ -1,5 +1,5 @@
-//! What the code uses that `tools/derive` writes: how a struct is read from an object, member by
-//! member, and what it means.
+//! Reads a struct from an object, member by member, and says what it means: the calls that the code
+//! uses which `tools/derive` writes.
 //!
 //! A struct is marked by a comment. `tools/derive crates/NAME` writes its impls of
 //! [`DeserializeFrom`] and [`Serialize`] into the module `json` beside it:
@@ -19,8 +19,9 @@
 //! ```
 //!
 //! The members may be in any order. Each member of a field's name has to be of the field's type,
-//! and the last one counts. A field of the type `Option` is `None` where its member is missing.
-//! Members of other names are skipped, or refused under `// json: derive strict`.
+//! and the last one counts. A field of the type `Option` is `None` if its member is missing.
+//! Members of other names are skipped; of a struct that is marked by `// json: derive strict` they
+//! are refused.
 #![tactic(auto)]
 
 mod builder;

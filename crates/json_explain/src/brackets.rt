@@ -15,7 +15,7 @@ use json_grammar::Kind;
 use json_io::Result;
 use json_tokens::{InputStr, Piece, Token, TokenKind, Tokens};
 
-// The kind of the token that opens a container of the kind.
+// Returns the kind of the token that opens an array or an object.
 fn opening_kind(kind: Kind) -> TokenKind
     ensures { result ≡ kind_of (begin_token kind) }
 {

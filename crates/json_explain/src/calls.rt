@@ -25,13 +25,14 @@ use json_tokens::{TextTokens, ValueTokens, error_without_place, is_refusal};
 use json_value::Value;
 use std::alloc::Global;
 
-/// The most bytes of a text.
+/// The greatest number of bytes that a JSON text may have.
 const MOST: usize = 4_294_967_295;
 
-/// The most levels of a tree, where the caller chooses none (RFC 8259, section 9).
+/// The greatest number of nested arrays and objects if the caller chooses none (RFC 8259, section
+/// 9).
 const LEVELS: u32 = 254;
 
-// Where the value of a text is refused, if it is. Fails if memory runs out.
+// Returns where the value of a text is refused, or `None` if it is not. Fails if memory runs out.
 fn refusal_of<'a, T: Explain<&'a str>>(
     alloc: Global,
     text: &'a str,
@@ -50,7 +51,7 @@ fn refusal_of<'a, T: Explain<&'a str>>(
     }
 }
 
-// An error with the refusal that explains it, and with the place of the value that is refused.
+// Returns an explanation of `error` with its refusal and the place of the value that is refused.
 fn explained_at(text: &str, depth: u32, error: Error, refusal: Refusal) -> Explanation
     requires { depth ≤ 1024 }
     ensures error { result.error ≡ error }
@@ -77,7 +78,7 @@ fn explained_at(text: &str, depth: u32, error: Error, refusal: Refusal) -> Expla
     }
 }
 
-// An error with what explains it, or that memory ran out.
+// Returns an explanation of `error`, or that memory ran out.
 fn explained<'a, T: Explain<&'a str>>(
     alloc: Global,
     text: &'a str,
@@ -99,7 +100,7 @@ fn explained<'a, T: Explain<&'a str>>(
     }
 }
 
-// The same of the bytes of a text.
+// Returns an explanation of an error in the bytes of a text, or that memory ran out.
 fn explained_bytes<'a, T: Explain<&'a str>>(
     alloc: Global,
     json: &'a [u8],
@@ -117,10 +118,13 @@ fn explained_bytes<'a, T: Explain<&'a str>>(
     }
 }
 
-/// Returns the value of a JSON text of at most 254 levels, as `json_data::from_str` does. If the
-/// type refuses the text's value, the error has the path to the innermost value that is refused,
-/// its line and column, what was found and what is wanted. Fails with `NoMemory` if memory runs
-/// out, also while a refusal is explained.
+/// Reads a value of type `T` from a JSON text with at most 254 levels of nested arrays and objects,
+/// as `json_data::from_str` does.
+///
+/// If the value of the text is no `T`, the error says which value within it is refused: the path to
+/// the innermost one, its line and column, what was found and what was wanted. Otherwise it is the
+/// error of `json_data::from_str`. Fails with `NoMemory` if memory runs out, also while an error is
+/// explained.
 pub fn from_str<'a, T: Explain<&'a str>>(
     alloc: Global,
     text: &'a str,
@@ -137,8 +141,8 @@ pub fn from_str<'a, T: Explain<&'a str>>(
     }
 }
 
-/// Returns the value of the bytes of a JSON text, as `json_data::from_slice` does, with errors as
-/// those of [`from_str`].
+/// Reads a value of type `T` from the bytes of a JSON text, as `json_data::from_slice` does. Errors
+/// say which value is refused, as those of [`from_str`] do.
 ///
 /// ```
 /// use json_explain::from_slice;
@@ -162,8 +166,9 @@ pub fn from_slice<'a, T: Explain<&'a str>>(
     }
 }
 
-/// Returns the value of the bytes of a JSON text by rules, as `json_data::from_slice_with` does,
-/// with errors as those of [`from_str`].
+/// Reads a value of type `T` from the bytes of a JSON text by rules that the caller chooses, as
+/// `json_data::from_slice_with` does: how many levels the text may have, and whether the names
+/// within an object have to differ. Errors say which value is refused, as those of [`from_str`] do.
 ///
 /// ```
 /// use json_explain::from_slice_with;
@@ -207,8 +212,9 @@ fn fill_room<S: Source>(alloc: Global, source: &mut S, room: &mut Vec<u8>) -> Re
     Ok(())
 }
 
-/// Returns the value of all that the source has left, as `json_data::from_reader` does, with errors
-/// as those of [`from_str`]. The bytes go into `room`, from which the value may borrow.
+/// Reads all bytes that are left in `source`, and a value of type `T` from them, as
+/// `json_data::from_reader` does. The bytes replace what `room` had; the value may borrow from
+/// `room`. Errors say which value is refused, as those of [`from_str`] do.
 ///
 /// ```
 /// use json_explain::from_reader;
@@ -243,9 +249,9 @@ pub fn from_reader<'a, S: Source, T: Explain<&'a str>>(
     }
 }
 
-/// Returns the value that a `Value` is read as, as `json_data::from_value` does. If the type
-/// refuses it, the error has the path to the innermost value that is refused, what was found and
-/// what is wanted, but no line and no column. Fails with `NoMemory` if memory runs out.
+/// Reads a value of type `T` from a `Value`, as `json_data::from_value` does. If the `Value` is no
+/// `T`, the error has the path to the innermost value that is refused, what was found and what was
+/// wanted, but no line and no column. Fails with `NoMemory` if memory runs out.
 ///
 /// ```
 /// use json_explain::from_value;
@@ -274,7 +280,7 @@ pub fn from_value<'a, T: Explain<&'a str>>(
     }
 }
 
-// An error of a value with what explains it, or that memory ran out.
+// Returns an explanation of an error of a value, or that memory ran out.
 fn explained_value<'a, T: Explain<&'a str>>(
     alloc: Global,
     value: &'a Value,

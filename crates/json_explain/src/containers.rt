@@ -20,7 +20,8 @@ use json_io::{ErrorCode, Result};
 use json_tokens::{InputStr, Piece, TokenKind, Tokens, error_without_place};
 use std::alloc::Global;
 
-/// The members of an object, explained one after another.
+/// A type that takes the members of an object one after another, for [`explain_members`], and says
+/// which of them is refused or missing.
 ///
 /// ```
 /// use json_data::{InputStr, TextTokens, Tokens};
@@ -52,15 +53,15 @@ use std::alloc::Global;
 /// assert_eq!(rt; format!(in alloc; "{refusal}")?.as_str(), "/a");
 /// ```
 pub trait ExplainMembers<S: InputStr>: Sized {
-    /// How the members are read.
+    /// How a member of each name is read, and which member is missing at the end.
     ghost reading: { ObjectReading };
 
-    /// Which fields were seen.
+    /// Which of the fields had a member so far.
     ghost seen: { Self → List Bool };
 
-    /// Takes the value of the member of that key, whose text is `name`, and returns where it is
-    /// refused, or `None` if it is read. Fails as the source of tokens does, or with `NoMemory` if
-    /// memory runs out.
+    /// Takes the value of a member from `tokens`. Returns where and why it is refused, or `None` if
+    /// it is accepted. `key` is the member's key as the source lends it, and `name` is the same key
+    /// without escapes. Fails as the source of tokens does, or with `NoMemory` if memory runs out.
     fn member<T: Tokens<S>>(
         &mut self,
         alloc: Global,
@@ -75,13 +76,13 @@ pub trait ExplainMembers<S: InputStr>: Sized {
         ensures seen { OnOk result (seen self.new ≡ reading.seen (seen self.old) name.now) }
         ensures err { GivesUpOnErr (T.state tokens.old) (T.state tokens.new) result };
 
-    /// Returns the name of the member that is missing, if one is, of an object in which no member
-    /// is left.
+    /// Returns the name of a member that is missing, once all members of the object were taken.
+    /// Returns `None` if none is missing.
     fn missing(&self) -> Option<&str>
         ensures { option_map (λ s. s.now) result ≡ reading.missing (seen self.now) };
 }
 
-// The refusal of an object in which a member of that name is missing, if there is a name. Fails if
+// Returns the refusal of an object in which a member is missing, or `None` if none is. Fails if
 // memory runs out.
 fn lacking(alloc: Global, member: Option<&str>) -> Result<Option<Refusal>>
     ensures ok { IfOk result (λ o. refused_in o ≡ option_map (λ s. lacks_member s.now) member.entry) }
@@ -96,14 +97,15 @@ fn lacking(alloc: Global, member: Option<&str>) -> Result<Option<Refusal>>
     }
 }
 
-// The refusal of a whole value of the kind `found_type` that is no container of the kind that is wanted.
+// Returns the refusal of a whole value of the type `found_type`, where another type was wanted.
 pub(crate) fn mismatch(alloc: Global, wanted: Wanted, found_type: JsonType) -> Refusal
     ensures { refused_of result ≡ refused_here TypeUnmatched None (Some wanted) found_type }
 {
     Refusal::here(alloc, ErrorCode::TypeUnmatched, wanted, found_type)
 }
 
-// The refusal of a part, as seen from the container, whose rest is taken.
+// Takes what is left of the innermost open container, and returns the refusal of a part of it as
+// seen from the container.
 pub(crate) fn leave_within<S: InputStr, T: Tokens<S>>(
     tokens: &mut T,
     refused: Refusal,
@@ -125,7 +127,7 @@ pub(crate) fn leave_within<S: InputStr, T: Tokens<S>>(
     }
 }
 
-// What is left of an array whose beginning was taken.
+// Explains the elements of an array whose beginning was taken, and takes its end.
 fn explain_elements<S: InputStr, V: Explain<S>, T: Tokens<S>>(
     alloc: Global,
     tokens: &mut T,
@@ -163,7 +165,7 @@ fn explain_elements<S: InputStr, V: Explain<S>, T: Tokens<S>>(
     }
 }
 
-// What is left of an object whose beginning was taken.
+// Explains the members of an object whose beginning was taken, and takes its end.
 fn explain_rest<S: InputStr, M: ExplainMembers<S>, T: Tokens<S>>(
     alloc: Global,
     members: &mut M,
@@ -204,8 +206,10 @@ fn explain_rest<S: InputStr, M: ExplainMembers<S>, T: Tokens<S>>(
     }
 }
 
-/// Takes one tree and returns where it is refused as an object with these members, or `None` if it
-/// is read. Fails as the source of tokens does, or with `NoMemory` if memory runs out.
+/// Takes the next value from `tokens` and passes the members of it to `members`. Returns where and
+/// why it is refused: because it is no object, because of the first member that is refused, or
+/// because a member is missing. Returns `None` if it is accepted. Fails as the source of tokens
+/// does, or with `NoMemory` if memory runs out.
 pub fn explain_members<S: InputStr, M: ExplainMembers<S>, T: Tokens<S>>(
     alloc: Global,
     members: &mut M,

@@ -13,7 +13,8 @@ use json_io::{ErrorCode, Result};
 use json_tokens::{InputStr, Tokens, is_refusal};
 use std::alloc::Global;
 
-/// A type of which it can be said where its reading refuses a tree.
+/// A type that can say where and why a JSON value is refused because it is no value of the type, by
+/// a [`Refusal`](crate::Refusal).
 ///
 /// ```
 /// use json_data::TextTokens;
@@ -36,11 +37,12 @@ use std::alloc::Global;
 /// }
 /// ```
 pub trait Explain<S: InputStr>: DeserializeFrom<S> + Drop {
-    /// Where the reading of a tree refuses it, if it does.
+    /// Where and why reading a tree refuses it, or `None` if the tree is a value of the type.
     ghost refused: { Tree → Option Refused };
 
-    /// Takes one tree and returns where it is refused, or `None` if it is read. Fails as the
-    /// source of tokens does, or with `NoMemory` if memory runs out.
+    /// Takes the next value, with all that is within it, from `tokens`. Returns where and why it is
+    /// refused, or `None` if it is a value of the type. Fails as the source of tokens does, or with
+    /// `NoMemory` if memory runs out.
     fn explain<T: Tokens<S>>(alloc: Global, tokens: &mut T) -> Result<Option<Refusal>>
         requires { WantsValue (T.state tokens.old) }
         ensures ok { IfOk result (λ o.
@@ -48,8 +50,10 @@ pub trait Explain<S: InputStr>: DeserializeFrom<S> + Drop {
         ensures err { GivesUpOnErr (T.state tokens.old) (T.state tokens.new) result };
 }
 
-/// Takes one tree and returns its refusal as a whole, or `None` if it is read: the body of
-/// [`Explain::explain`] of a type whose values have no parts. `wanted` says what is read. Fails as
+/// Takes the next value from `tokens` and tries to read it as a `V`. Returns a refusal of the whole
+/// value, or `None` if it is a `V`. `wanted` is what the refusal says was wanted.
+///
+/// This is all that [`Explain::explain`] has to do for a type whose values have no parts. Fails as
 /// the source of tokens does, or with `NoMemory` if memory runs out.
 pub fn explain_whole<S: InputStr, V: DeserializeFrom<S> + Drop, T: Tokens<S>>(
     alloc: Global,
@@ -76,8 +80,9 @@ pub fn explain_whole<S: InputStr, V: DeserializeFrom<S> + Drop, T: Tokens<S>>(
     }
 }
 
-/// Takes one tree, the value of a member, and returns its refusal because of the member's key, whose
-/// code is `code`. Fails as the source of tokens does.
+/// Takes the next value from `tokens`, which is the value of a member whose key is not accepted.
+/// Returns a refusal whose error code is `code`; it is always `Some`. Fails as the source of tokens
+/// does.
 pub fn explain_key<S: InputStr, T: Tokens<S>>(
     alloc: Global,
     tokens: &mut T,

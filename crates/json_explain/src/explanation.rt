@@ -7,7 +7,7 @@ use json_doc::JsonType;
 use json_io::{Error, Place};
 use std::fmt;
 
-/// Why no value was read, and where.
+/// The error of a call that reads a value: why no value was read, and where.
 ///
 /// ```
 /// use json_explain::from_str;
@@ -26,7 +26,7 @@ pub struct Explanation {
 }
 
 impl Explanation {
-    // That of an error that is no refusal.
+    // Creates the explanation of an error that refuses no value.
     pub(crate) fn plain(error: Error) -> Explanation
         ensures error { result.error ≡ error }
         ensures refusal { result.refusal ≡ None }
@@ -39,22 +39,24 @@ impl Explanation {
         }
     }
 
-    /// Returns the error as the call of `json_data` with the same name has it.
+    /// Returns the error alone: the one that the function of the same name in `json_data` returns
+    /// for this input, or `NoMemory`.
     pub fn error(&self) -> Error
         ensures { result ≡ self.now.error }
     {
         self.error
     }
 
-    /// Returns where the value is refused, and what was wanted there. It is `None` if no value was
-    /// refused: if the text has no value, or memory ran out.
+    /// Returns which value is refused, and what was wanted there. Returns `None` if no value was
+    /// refused, because the input has no valid JSON text or memory ran out.
     pub fn refused(&self) -> Option<&Refusal>
         ensures { option_map (λ r. r.now) result ≡ self.now.refusal }
     {
         self.refusal.as_ref()
     }
 
-    /// Returns the kind of the value that is refused.
+    /// Returns the JSON type of the value that is refused: what was found. Returns `None` if no
+    /// value was refused.
     pub fn found_type(&self) -> Option<JsonType>
         ensures { result ≡ option_map (λ r. r.found_type) self.now.refusal }
     {
@@ -64,15 +66,16 @@ impl Explanation {
         }
     }
 
-    /// Returns the place of the innermost value that is refused, or of the fault of the text. A
-    /// `Value` that is refused has none.
+    /// Returns the place of the innermost value that is refused, or else the place of the error. It
+    /// is `Place::None` if a `Value` is refused, which has no text.
     pub fn place(&self) -> Place
         ensures { result ≡ self.now.place }
     {
         self.place
     }
 
-    /// Returns the line of that place, counted from 1.
+    /// Returns the line of [`Explanation::place`], counted from 1. Returns `None` if that place has
+    /// no line.
     pub fn line(&self) -> Option<usize>
         ensures { result ≡ line_of self.now.place }
     {
@@ -82,7 +85,8 @@ impl Explanation {
         }
     }
 
-    /// Returns the column of it in bytes, counted from 1.
+    /// Returns the column of [`Explanation::place`], in bytes and counted from 1. Returns `None` if
+    /// that place has no column.
     pub fn column(&self) -> Option<usize>
         ensures { result ≡ column_of self.now.place }
     {
@@ -93,7 +97,7 @@ impl Explanation {
     }
 }
 
-// What was found.
+// Returns the words for the type that was found.
 fn found_text(found_type: JsonType) -> &'static str {
     match found_type {
         JsonType::Null => "null",

@@ -7,7 +7,7 @@ ghost use Rattle.json_tokens.specs.Kinds.{first_kind};
 use json_doc::JsonType;
 use json_tokens::TokenKind;
 
-// The kind of a value that begins with a token of this kind.
+// Returns the JSON type of a value that begins with a token of this kind.
 pub(crate) fn type_of_token(kind: TokenKind) -> JsonType
     ensures { (t : Tree) → first_kind t ≡ kind → spec_type_of t ≡ result }
 {

@@ -1,28 +1,29 @@
-//! Laws of what is said of refusals.
+//! Laws of where and why values are refused.
 ghost use Rattle.json_explain.specs.Laws.{WholeExplained, OptionExplained, ListExplained, PairExplained, MapExplained};
 
-/// A value without parts is refused as a whole exactly where its reading refuses it.
+/// Shows that a value without parts is refused as a whole exactly if reading it refuses it.
 pub fn whole_explained()
     ensures { WholeExplained }
 {}
 
-/// The same of what may be `null`.
+/// Shows that an optional value is refused exactly if reading it refuses it, where this holds of
+/// the type within.
 pub fn option_explained()
     ensures { OptionExplained }
 {}
 
-/// An array is refused exactly where an element of it is, at the first of them.
+/// Shows that an array is refused exactly if an element of it is, at the first such element.
 pub fn list_explained()
     ensures { ListExplained }
 {}
 
-/// A pair is refused exactly where an element of it is, at the first of them, or where the array has
-/// another length.
+/// Shows that a pair is refused exactly if one of its two elements is, at the first such element,
+/// or if the array has another length.
 pub fn pair_explained()
     ensures { PairExplained }
 {}
 
-/// A map is refused exactly where a key or a value of it is, at the first of them.
+/// Shows that a map is refused exactly if a key or a value of it is, at the first such member.
 pub fn map_explained()
     ensures { MapExplained }
 {}

@@ -1,5 +1,6 @@
-//! Typed reading whose errors say where: the path to the innermost value that is refused, its line
-//! and column, what was wanted there and what was found, or which member is missing.
+//! Typed reading whose errors say where a value is refused: a value is refused if it is no value of
+//! the type that is asked for. Such an error has the path to the innermost value that is refused,
+//! its line and column, what was wanted there and what was found, or which member is missing.
 //!
 //! ```
 //! use json_explain::from_str;

@@ -20,7 +20,7 @@ use json_io::Result;
 use json_tokens::{InputStr, TokenKind, Tokens};
 use std::alloc::Global;
 
-// Whether the array ends here. Its end is taken then, and nothing otherwise.
+// Returns whether the array ends here. If so, its end is taken; otherwise nothing is.
 fn take_end<S: InputStr, T: Tokens<S>>(tokens: &mut T) -> Result<bool>
     requires { InArray (T.state tokens.old).expected }
     ensures ends { IfOk result (λ b. b ≡ true
@@ -37,7 +37,7 @@ fn take_end<S: InputStr, T: Tokens<S>>(tokens: &mut T) -> Result<bool>
     Ok(false)
 }
 
-// What is left of an array of two whose beginning was taken.
+// Explains the two elements of an array whose beginning was taken, and takes its end.
 fn explain_two<S: InputStr, A: Explain<S>, B: Explain<S>, T: Tokens<S>>(
     alloc: Global,
     tokens: &mut T,

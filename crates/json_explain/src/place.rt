@@ -29,7 +29,7 @@ fn take<'a>(parser: &mut Parser<'a>) -> Option<Event<'a>>
     }
 }
 
-// How many containers are open within a value after one more event of it.
+// Returns how many containers are open within a value after one more event of it.
 fn levels_after(event: Event<'_>, levels: usize, most: usize) -> usize
     requires { levels < most }
     ensures most { result ≤ most }
@@ -124,7 +124,7 @@ fn enter(parser: &mut Parser<'_>, step: &Step) -> bool
     }
 }
 
-// The offset at which an event begins whose token ends there.
+// Returns the offset at which an event begins, given the offset where its token ends.
 fn value_start(event: Event<'_>, end: usize) -> Option<usize>
     ensures { (i : ℕ) → i + length (event_bytes event.entry) ≡ end → result ≡ Some i }
 {
@@ -138,8 +138,8 @@ fn value_start(event: Event<'_>, end: usize) -> Option<usize>
     }
 }
 
-/// Returns the offset in bytes of the value to which a path leads in a text of at most `depth`
-/// levels.
+/// Returns the offset in bytes at which the value begins to which a path leads. The text has at
+/// most `depth` levels.
 pub(crate) fn offset_at_path(text: &str, depth: u32, steps: &[Step]) -> Option<usize>
     requires { depth ≤ 1024 }
     ensures { (t v : Tree) (xs : List Tok) → is_text false t text.now → depth_of t ≤ depth

@@ -9,7 +9,7 @@ use json_io::{ErrorCode, Result};
 use std::alloc::Global;
 use std::fmt;
 
-/// A step from a container to one of its values.
+/// A step of a path: from an array or object to one of the values in it.
 ///
 /// ```
 /// use json_explain::{Step, from_str};
@@ -21,14 +21,15 @@ use std::fmt;
 /// ```
 #[derive(Drop)]
 pub enum Step {
-    /// To the member with this key, and with this index among all members of its object, counted
-    /// from 0: a key may repeat (RFC 8259, section 4).
+    /// To the value of a member: its key, and its index among all members of the object, counted
+    /// from 0. The index decides, since a key may repeat (RFC 8259, section 4).
     Key(String, usize),
-    /// To the element with this index, counted from 0.
+    /// To an element of an array: its index, counted from 0.
     Index(usize),
 }
 
-/// What a type reads.
+/// What a type reads, for error messages. It is displayed as a phrase, such as "an integer from 0
+/// to 255".
 ///
 /// ```
 /// use json_explain::Wanted;
@@ -40,23 +41,33 @@ pub enum Wanted {
     Null,
     /// `true` or `false`.
     Boolean,
-    /// An integer of the type of that name.
+    /// An integer of the type `u8`.
     U8,
+    /// An integer of the type `u16`.
     U16,
+    /// An integer of the type `u32`.
     U32,
+    /// An integer of the type `u64`.
     U64,
+    /// An integer of the type `u128`.
     U128,
+    /// An integer of the type `i8`.
     I8,
+    /// An integer of the type `i16`.
     I16,
+    /// An integer of the type `i32`.
     I32,
+    /// An integer of the type `i64`.
     I64,
+    /// An integer of the type `i128`.
     I128,
-    /// A number whose nearest float of the type of that name is finite.
+    /// A number whose nearest `f32` is finite.
     F32,
+    /// A number whose nearest `f64` is finite.
     F64,
-    /// An integer that lies in `i64` or in `u64`.
+    /// An integer that is in `i64` or in `u64`.
     Number,
-    /// A number, or a string that is one.
+    /// A number, or a string that has the text of one.
     Literal,
     /// A string of one character.
     Character,
@@ -68,16 +79,16 @@ pub enum Wanted {
     Pair,
     /// An object.
     Object,
-    /// An array of keys and indexes.
+    /// A path within a document: an array of keys and indexes.
     Path,
-    /// An edit.
+    /// An edit of a document, spelled as an array.
     Edit,
     /// A value of a type of the program's own.
     Other,
 }
 
 impl Wanted {
-    // The text of it.
+    // Returns the phrase that is displayed.
     fn text(self) -> &'static str {
         match self {
             Wanted::Null => "null",
@@ -114,9 +125,9 @@ impl fmt::Display for Wanted {
     }
 }
 
-/// Where a value is refused: the path to the innermost value that is refused, why, what is wanted
-/// there and what was found. It is displayed as a JSON Pointer (RFC 6901), escaped as within a JSON
-/// string (section 5).
+/// Why a value within a whole value is refused, and where it is: the path to the innermost value
+/// that is refused, the error code, what was wanted there and what was found. It is displayed as
+/// its path: a JSON Pointer (RFC 6901), escaped as within a JSON string (RFC 6901, section 5).
 ///
 /// ```
 /// use json_doc::JsonType;
@@ -138,8 +149,8 @@ pub struct Refusal {
 }
 
 impl Refusal {
-    /// Returns the refusal of a whole value of the kind `found_type`, where `wanted` says what is read
-    /// there.
+    /// Creates the refusal of a whole value, with an empty path. `code` says why it is refused,
+    /// `wanted` what should be in its place, and `found_type` is the JSON type of the value.
     pub fn here(alloc: Global, code: ErrorCode, wanted: Wanted, found_type: JsonType) -> Refusal
         ensures { refused_of result ≡ refused_here code None (Some wanted) found_type }
     {
@@ -152,7 +163,9 @@ impl Refusal {
         }
     }
 
-    /// Returns the refusal of a member's value, of the kind `found_type`, because of its key.
+    /// Creates the refusal of a member whose key is not accepted, with an empty path and nothing
+    /// wanted. `code` says what is wrong with the key, and `found_type` is the JSON type of the
+    /// member's value.
     pub fn key(alloc: Global, code: ErrorCode, found_type: JsonType) -> Refusal
         ensures { refused_of result ≡ refused_here code None None found_type }
     {
@@ -165,8 +178,8 @@ impl Refusal {
         }
     }
 
-    /// Returns the refusal of an object in which the member of that name is missing. Fails with
-    /// `NoMemory` if memory runs out.
+    /// Creates the refusal of an object that has no member named `member`, with an empty path.
+    /// Fails with `NoMemory` if memory runs out.
     pub fn lacks(alloc: Global, member: &str) -> Result<Refusal>
         ensures ok { IfOk result (λ r. refused_of r ≡ lacks_member member.now) }
         ensures only { OnlyNoMemory result }
@@ -181,8 +194,8 @@ impl Refusal {
         })
     }
 
-    /// Returns the refusal as seen from the container around it. Fails with `NoMemory` if memory
-    /// runs out.
+    /// Returns the same refusal with `step` before its path: as seen from the array or object
+    /// around the value. Fails with `NoMemory` if memory runs out.
     pub fn within(self, step: Step) -> Result<Refusal>
         ensures ok { IfOk result (λ r. refused_of r
             ≡ spec_within (explained_step step) (refused_of self)) }
@@ -205,21 +218,22 @@ impl Refusal {
         })
     }
 
-    /// Returns the steps of the path, from the whole value to the innermost that is refused.
+    /// Returns the steps of the path, from the whole value to the innermost value that is refused.
     pub fn steps(&self) -> &[Step]
         ensures { result.now ≡ self.now.steps.items }
     {
         self.steps.as_slice()
     }
 
-    /// Returns why the value is refused.
+    /// Returns the error code that says why the value is refused.
     pub fn code(&self) -> ErrorCode
         ensures { result ≡ (refused_of self.now).code }
     {
         self.code
     }
 
-    /// Returns the name of the member that is missing, if the refusal is of an object without it.
+    /// Returns the name of the missing member if an object is refused because a member is missing.
+    /// Otherwise returns `None`.
     pub fn member(&self) -> Option<&str>
         ensures { option_map (λ s. s.now) result ≡ (refused_of self.now).member }
     {
@@ -229,15 +243,15 @@ impl Refusal {
         }
     }
 
-    /// Returns what is wanted in place of the value. It is `None` if the key of the value is
-    /// refused, or if a member is missing.
+    /// Returns what is wanted in place of the value. Returns `None` if the key of the value is what
+    /// is refused, or if a member is missing.
     pub fn wanted(&self) -> Option<Wanted>
         ensures { result ≡ (refused_of self.now).wanted }
     {
         self.wanted
     }
 
-    /// Returns the kind of the value that is refused.
+    /// Returns the JSON type of the value that is refused: what was found.
     pub fn found_type(&self) -> JsonType
         ensures { result ≡ (refused_of self.now).found_type }
     {

@@ -15,8 +15,9 @@ use json_text::{Parser, Repaired};
 use std::alloc::Global;
 use std::marker::Model;
 
-/// Reads the values of one input one after another. There need be no whitespace between them, and
-/// what follows a value is not looked at. Errors have their places in the whole input.
+/// A reader of JSON values that follow one another in one input. There need be no whitespace
+/// between them, and reading one does not look at what follows it. Errors have their places in the
+/// whole input.
 ///
 /// ```
 /// use json_stream::Deserializer;
@@ -57,8 +58,8 @@ impl<'a> Model for Deserializer<'a> {
 }
 
 impl<'a> Deserializer<'a> {
-    /// Creates a reader at the beginning of at most 4,294,967,295 bytes. Tests here, once, whether
-    /// they are UTF-8.
+    /// Creates a reader at the beginning of `s`, which has at most 4,294,967,295 bytes. Whether
+    /// they are UTF-8 is tested here, once; if they are not, each later call that reads fails.
     pub fn from_slice(s: &'a [u8]) -> Deserializer<'a>
         requires { length s.now < 2 ^ 32 }
         ensures { result ≡ record { text = s.now; index = 0; lossy = false; repaired = None } }
@@ -72,7 +73,7 @@ impl<'a> Deserializer<'a> {
         }
     }
 
-    /// Creates a reader at the beginning of a text of at most 4,294,967,295 bytes.
+    /// Creates a reader at the beginning of the text `s`, which has at most 4,294,967,295 bytes.
     pub fn from_str(s: &'a str) -> Deserializer<'a>
         requires { length s.now < 2 ^ 32 }
         ensures { result ≡ record { text = s.now; index = 0; lossy = false; repaired = None } }
@@ -80,8 +81,10 @@ impl<'a> Deserializer<'a> {
         Deserializer::of_text(s, false, None)
     }
 
-    /// Returns a reader of the repaired text, which has at most 4,294,967,295 bytes, in the lossy
-    /// mode. Offsets, lines and columns are those of the input that was repaired.
+    /// Creates a reader at the beginning of a repaired text: one that was made of any bytes, with
+    /// U+FFFD for each ill-formed run of them. The text has at most 4,294,967,295 bytes, and is
+    /// read in the lossy mode of [`Deserializer::utf8_lossy`]. Offsets, lines and columns are those
+    /// of the bytes.
     pub fn from_repaired(r: &'a Repaired) -> Deserializer<'a>
         requires { length r.now.text < 2 ^ 32 }
         ensures state { result ≡ record {
@@ -109,16 +112,16 @@ impl<'a> Deserializer<'a> {
         }
     }
 
-    /// Returns the same reader, which reads every number as its literal, whatever is asked for.
+    /// Returns the reader unchanged. A number that is asked for as a `RawNumber` is read as its
+    /// literal in any case, so that there is nothing to choose.
     pub fn use_rawnumber(self) -> Deserializer<'a>
         ensures { result ≡ self.entry }
     {
         self
     }
 
-    /// Returns the same reader in the lossy mode, in which no surrogate is an error: the escape of
-    /// one that is alone is U+FFFD (RFC 8259, section 8.2). Bytes that are no UTF-8 are an error as
-    /// before.
+    /// Returns the reader in the lossy mode: an escape of a surrogate that is alone is no error,
+    /// and is read as U+FFFD (RFC 8259, section 8.2). Bytes that are not UTF-8 are still an error.
     pub fn utf8_lossy(self) -> Deserializer<'a>
         ensures { result ≡ record self.entry { lossy = true } }
     {
@@ -128,8 +131,8 @@ impl<'a> Deserializer<'a> {
         }
     }
 
-    /// Returns the offset in bytes from the beginning of the input; of a repaired text, its origin
-    /// in the input.
+    /// Returns how far the reader is: the offset in bytes from the beginning of the input. If the
+    /// text was repaired, this is the offset in the input, not in the repaired text.
     pub fn index(&self) -> usize
         ensures { result ≡ offset_in self.now.repaired self.now.index }
     {
@@ -139,14 +142,16 @@ impl<'a> Deserializer<'a> {
         }
     }
 
-    /// Reads the next value.
+    /// Reads the next value as a `T`. The value may borrow from the input; `alloc` is for what it
+    /// owns. Afterwards the reader is after the value.
     ///
-    /// Fails with `InvalidUTF8` exactly if the whole input is no UTF-8, and with a code from
-    /// `EofWhileParsing` to `InvalidSurrogate` or `RecursionLimitExceeded` for the error of what is
-    /// left, as a value of at most 254 levels. Else it fails if the tree is no value of the type,
-    /// at the first byte of the value: with `TypeUnmatched`, `NumberOutOfRange` or
-    /// `ExpectedNumericKey`. Fails with `NoMemory` if memory runs out. After a value, or an error
-    /// of its tree, the reader is after that value; after any other error it is where it was.
+    /// Fails with `InvalidUTF8` exactly if the whole input is not UTF-8. Fails with a code from
+    /// `EofWhileParsing` to `InvalidSurrogate`, or with `RecursionLimitExceeded`, if what is left
+    /// begins with no JSON value of at most 254 levels. Fails with `NoMemory` if memory runs out.
+    /// In these cases the reader stays where it was.
+    ///
+    /// A value that is no `T` is refused, at its first byte: with `TypeUnmatched`,
+    /// `NumberOutOfRange` or `ExpectedNumericKey`. Then the reader is after that value, too.
     pub fn deserialize<T: Deserialize<'a>>(&mut self, alloc: Global) -> Result<T>
         ensures ok { IfOk result (λ v.
             TakesNextValue T.from_tree self.old (gives (T.datum v)) self.new) }
@@ -160,9 +165,9 @@ impl<'a> Deserializer<'a> {
         }
     }
 
-    /// Checks that only whitespace is left. Fails with `InvalidUTF8` as `deserialize` does, else
-    /// with `TrailingCharacters` exactly at the next other byte (RFC 8259, section 2). It does not
-    /// move.
+    /// Checks that only whitespace is left, and does not move. Fails with `InvalidUTF8` if the
+    /// whole input is not UTF-8. Otherwise fails with `TrailingCharacters` if something else is
+    /// left, at the first byte of that (RFC 8259, section 2).
     pub fn end(&mut self) -> Result<()>
         ensures utf8 { OnOk result (IsUtf8 self.old.text) }
         ensures ok { OnOk result (NothingLeft (parser_at self.old)) }
@@ -178,12 +183,12 @@ impl<'a> Deserializer<'a> {
         }
     }
 
-    /// Takes whitespace and `]`, for a caller that reads the elements of an array (RFC 8259,
-    /// section 5).
+    /// Takes whitespace and `]`, for a caller that reads the elements of an array one by one (RFC
+    /// 8259, section 5).
     ///
-    /// Fails with `InvalidUTF8` as `deserialize` does, else with `EofWhileParsing` if only
-    /// whitespace is left, else with `ExpectedArrayCommaOrEnd`, both at the next byte that is no
-    /// whitespace; then it does not move.
+    /// Fails with `InvalidUTF8` if the whole input is not UTF-8, with `EofWhileParsing` if only
+    /// whitespace is left, and with `ExpectedArrayCommaOrEnd` at any other byte that comes after
+    /// the whitespace. The reader does not move then.
     pub fn end_seq(&mut self) -> Result<()>
         ensures ok { OnOk result (PassesEnd self.old Kind.Array self.new) }
         ensures err { IfErr result (EndFails self.old (LacksEnd (parser_at self.old) Kind.Array)) }
@@ -204,13 +209,12 @@ impl<'a> Deserializer<'a> {
         }
     }
 
-    /// Takes whitespace and `}`, for a caller that reads the members of an object (RFC 8259,
-    /// section 4).
+    /// Takes whitespace and `}`, for a caller that reads the members of an object one by one (RFC
+    /// 8259, section 4).
     ///
-    /// Fails with `InvalidUTF8` as `deserialize` does, else with `EofWhileParsing` if only
-    /// whitespace is left, with `TrailingComma` at a comma, and else with
-    /// `ExpectedObjectCommaOrEnd`, each at the next byte that is no whitespace; then it does not
-    /// move.
+    /// Fails with `InvalidUTF8` if the whole input is not UTF-8, with `EofWhileParsing` if only
+    /// whitespace is left, with `TrailingComma` at a comma after the whitespace, and with
+    /// `ExpectedObjectCommaOrEnd` at any other byte there. The reader does not move then.
     pub fn end_map(&mut self) -> Result<()>
         ensures ok { OnOk result (PassesEnd self.old Kind.Object self.new) }
         ensures err { IfErr result (EndFails self.old (LacksEnd (parser_at self.old) Kind.Object)) }
@@ -231,7 +235,7 @@ impl<'a> Deserializer<'a> {
         }
     }
 
-    /// Returns all values that are left, one after another.
+    /// Returns the values that are left as a stream, each read as a `T`.
     pub fn into_stream<T: Deserialize<'a>>(self) -> StreamDeserializer<'a, T>
         ensures { result ≡ record { input = self.entry; ended = false } }
     {

@@ -5,7 +5,7 @@ ghost use Rattle.json_stream.specs.Streams.{added as spec_added, origin_place, i
 use json_io::{Error, Place};
 use json_text::Repaired;
 
-// How many bytes more the repaired text has before the offset than the input.
+// Returns how many more bytes the repaired text has before `offset` than the input.
 fn added(repaired: &Repaired, offset: usize) -> usize
     requires { offset ≤ length repaired.now.text }
     ensures { result ≡ spec_added repaired.now offset }
@@ -13,7 +13,7 @@ fn added(repaired: &Repaired, offset: usize) -> usize
     offset.saturating_sub(repaired.origin(offset))
 }
 
-// The place in the input for one in its repaired text.
+// Returns the place in the input of a place in its repaired text.
 #[cold]
 fn place_in_input(repaired: &Repaired, place: Place) -> Place
     requires { PlaceIsWithin repaired.now.text place }
@@ -37,8 +37,8 @@ fn place_in_input(repaired: &Repaired, place: Place) -> Place
     }
 }
 
-/// Returns an error of the text that is read as it is reported: the same, at its place in the
-/// input.
+/// Returns an error of the text with its place in the input, which is another one if the text was
+/// repaired.
 pub(crate) fn at_input_place(repaired: Option<&Repaired>, error: Error) -> Error
     requires { IfSome repaired (λ r. PlaceIsWithin r.now.text error.place) }
     ensures { result ≡ record error {

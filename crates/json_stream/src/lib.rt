@@ -1,5 +1,5 @@
-//! Values of one input, one after another: each is read as the caller asks, and what follows it is
-//! not looked at.
+//! Reads JSON values that follow one another in one input, each as the type that the caller asks
+//! for. Reading a value does not look at what follows it.
 //!
 //! ```
 //! use json_stream::Deserializer;

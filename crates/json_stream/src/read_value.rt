@@ -26,9 +26,9 @@ fn tokens_at<'a>(text: &'a str, lossy: bool, from: usize) -> TextTokens<'a>
     if lossy { tokens.lossy() } else { tokens }
 }
 
-/// Reads the next value in the text from `at` on, in either mode. `at` becomes the offset after it
-/// if it was taken. A text that was repaired is read so too, and its errors have places of the
-/// input.
+/// Reads the next value of the text from the offset `at` on, in the lossy mode or not. `at` becomes
+/// the offset after the value, if that was taken. If the text was repaired, errors have their
+/// places in the input.
 pub(crate) fn read_next_value<'a, T: Deserialize<'a>>(
     alloc: Global,
     text: &'a str,

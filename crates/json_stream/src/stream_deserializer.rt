@@ -11,7 +11,8 @@ use json_io::Result;
 use std::alloc::Global;
 use std::marker::{Model, PhantomData};
 
-/// The values that are left of an input, one after another, up to the first refusal.
+/// The values that are left of an input, each read as a `T`, one after another up to the first
+/// error. It is created by [`Deserializer::into_stream`].
 ///
 /// ```
 /// use json_stream::Deserializer;
@@ -37,7 +38,7 @@ impl<'a, T> Model for StreamDeserializer<'a, T> {
 }
 
 impl<'a, T: Deserialize<'a>> StreamDeserializer<'a, T> {
-    /// Returns the values of the input from where its reader is.
+    /// Creates the stream of the values from where the reader is.
     pub(crate) fn new(input: Deserializer<'a>) -> StreamDeserializer<'a, T>
         ensures { result ≡ record { input = input.entry; ended = false } }
     {
@@ -48,9 +49,9 @@ impl<'a, T: Deserialize<'a>> StreamDeserializer<'a, T> {
         }
     }
 
-    /// Returns the next value, or why there is none, as [`Deserializer::deserialize`] does: where
-    /// only whitespace is left `EofWhileParsing`, at the length of the input. Returns `None`
-    /// exactly after an `Err`, and again.
+    /// Returns the next value, or the error with which [`Deserializer::deserialize`] fails there.
+    /// If only whitespace is left, that is `EofWhileParsing` at the end of the input, unless memory
+    /// runs out. Returns `None` exactly if a call has returned an error before.
     pub fn next(&mut self, alloc: Global) -> Option<Result<T>>
         ensures none { MatchOption result (self.old.ended ≡ true) (λ _. self.old.ended ≡ false) }
         ensures after { result ≡ None → self.new ≡ self.old }

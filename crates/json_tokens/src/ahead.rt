@@ -18,7 +18,7 @@ use json_io::Error;
 use json_number::{Number, integer_of};
 use json_text::{Event, Parser, Span};
 
-/// An event that was read and not taken yet.
+/// An event that was read, and whose token is not taken yet.
 #[derive(Clone, Copy)]
 pub(crate) struct Ahead<'a> {
     pub(crate) event: Event<'a>,
@@ -30,7 +30,7 @@ pub(crate) struct Ahead<'a> {
     ghost valued: { option_map value_of number ≡ spec_event_integer event },
 }
 
-/// The next event of a text, where the value is not whole.
+/// Reads the next event of a value that has more tokens.
 #[inline(always)]
 pub(crate) fn read_ahead<'a>(parser: &mut Parser<'a>) -> std::result::Result<Event<'a>, Error>
     requires given { (ts : List Tok) × HasGiven parser.old ts }
@@ -52,7 +52,7 @@ pub(crate) fn read_ahead<'a>(parser: &mut Parser<'a>) -> std::result::Result<Eve
 }
 
 impl<'a> Ahead<'a> {
-    /// An event with the kind of its token.
+    /// Creates the event that is ahead, with the kind of its token.
     #[inline(always)]
     pub(crate) fn new(event: Event<'a>) -> Ahead<'a>
         requires { EventIsNumber event }
@@ -66,7 +66,7 @@ impl<'a> Ahead<'a> {
         }
     }
 
-    /// The token of the event.
+    /// Returns the token of the event.
     #[inline(always)]
     pub(crate) fn token(self) -> TokenOf<&'a str>
         requires number { EventIsNumber self.event }
@@ -89,7 +89,7 @@ impl<'a> Ahead<'a> {
     }
 }
 
-/// The integer by value of an event that is a number.
+/// Returns the integer of an event that is a number, if it is in `i64` or in `u64` and is not `-0`.
 #[inline(always)]
 fn event_integer(event: Event<'_>) -> Option<Number>
     requires { EventIsNumber event }
@@ -101,7 +101,7 @@ fn event_integer(event: Event<'_>) -> Option<Number>
     }
 }
 
-/// The kind of an event's token.
+/// Returns the kind of the token of an event.
 #[inline(always)]
 fn event_kind(event: Event<'_>, number: Option<Number>) -> TokenKind
     requires { option_map value_of number ≡ spec_event_integer event }
@@ -123,7 +123,7 @@ fn event_kind(event: Event<'_>, number: Option<Number>) -> TokenKind
     }
 }
 
-/// What a span spells.
+/// Returns the characters between the quotes as a piece.
 #[inline(always)]
 pub(crate) fn plain_piece<'a>(span: Span<'a>) -> Piece<&'a str>
     ensures { (s : List ℕ) → chars span.entry.lossy s span.entry.raw.now

@@ -1,7 +1,8 @@
 // What a source of tokens lends.
 ghost use Rattle.std.specs.Prelude.{◌≡◌, ℕ, List};
 
-/// What a source of tokens lends of texts: `&'de str`.
+/// How a source of tokens lends texts: a type of borrowed strings. `&'de str` is the one of this
+/// library; it borrows from the input for `'de`.
 ///
 /// ```
 /// use json_tokens::InputStr;
@@ -9,9 +10,10 @@ ghost use Rattle.std.specs.Prelude.{◌≡◌, ℕ, List};
 /// assert_eq!(rt; text.as_text(), "Ada");
 /// ```
 pub trait InputStr: Copy {
+    /// The bytes of the text.
     ghost bytes: { Self → List ℕ };
 
-    /// Returns the text.
+    /// Returns the text, for as long as `self` is borrowed.
     fn as_text(&self) -> &str
         ensures { result.now ≡ bytes self.now };
 }

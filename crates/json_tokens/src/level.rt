@@ -8,17 +8,17 @@ ghost use Rattle.json_tokens.specs.Values.{Left, left_after_opening, element_tar
 use crate::token::TokenKind;
 use json_value::{ArrayIter, Iter, View};
 
-/// What is left of an open container.
+/// What is left of an open array or object.
 #[derive(Drop)]
 pub(crate) enum Level<'a> {
-    /// None is open.
+    /// No array or object is open.
     Root,
     List(ArrayIter<'a>),
     Pairs(Iter<'a>),
 }
 
 impl<'a> Level<'a> {
-    /// The elements of a list.
+    /// Returns all elements of an array.
     pub(crate) fn elements(view: View<'a>) -> Level<'a>
         ensures { (ts : Trees) (c : List Left) → seen view.entry ≡ list ts
             → left_after_opening result c ≡ elements_of (trees_list ts) ∷ c }
@@ -29,7 +29,7 @@ impl<'a> Level<'a> {
         }
     }
 
-    /// The members of pairs.
+    /// Returns all members of an object.
     pub(crate) fn members(view: View<'a>) -> Level<'a>
         ensures { (ps : Pairs) (c : List Left) → seen view.entry ≡ pairs ps
             → left_after_opening result c ≡ members_of (pairs_list ps) ∷ c }
@@ -40,7 +40,7 @@ impl<'a> Level<'a> {
         }
     }
 
-    /// Takes the first element that is left.
+    /// Takes the next element of an array. Returns `None` if none is left or this is no array.
     pub(crate) fn element(&mut self) -> Option<View<'a>>
         ensures tree { (c : List Left) → PullsElement (left_after_opening self.old c)
             (option_map seen result) (left_after_opening self.new c) }
@@ -52,7 +52,7 @@ impl<'a> Level<'a> {
         }
     }
 
-    /// Takes the first member that is left.
+    /// Takes the next member of an object. Returns `None` if none is left or this is no object.
     pub(crate) fn member(&mut self) -> Option<(&'a str, View<'a>)>
         ensures { (c : List Left)
             → PullsMember (left_after_opening self.old c) (option_map member_seen result)

@@ -1,5 +1,6 @@
-//! Sources of tokens: the tokens of a text or of a value, one after another, and the pieces of text
-//! that they lend. Contracts say which tokens a call takes, and why it fails.
+//! Sources of tokens: the tokens of a JSON text or of a `Value`, one after another. A token is
+//! `null`, a boolean, a number, a string, a key, or a bracket that opens or closes an array or
+//! object. Contracts say which tokens a call takes, and why it fails.
 //!
 //! ```
 //! use json_tokens::{TextTokens, Token, TokenKind, Tokens};

@@ -13,8 +13,9 @@ use json_text::{Event, Parser};
 use json_value::Value;
 use std::alloc::Global;
 
-/// The value whose first event the parser handed out last, packed as one document. The parser goes
-/// on to its end.
+/// Reads the rest of a value into a packed document of its own, and returns it. `first` is the
+/// value's first event, which the parser has just returned; the parser goes on to the end of the
+/// value.
 pub(crate) fn packed_value<'a>(
     alloc: Global,
     parser: &mut Parser<'a>,

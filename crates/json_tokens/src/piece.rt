@@ -12,7 +12,8 @@ use std::alloc::{AllocError, Global};
 use std::borrow::CowStr;
 use std::str::from_utf8_unchecked;
 
-/// A text or a key, maybe with escapes that are still to be read.
+/// A string or a key as a source of tokens lends it: its characters between the quotes. If escapes
+/// are among them, these are not read yet.
 ///
 /// ```
 /// use json_tokens::Piece;
@@ -21,8 +22,10 @@ use std::str::from_utf8_unchecked;
 /// assert_eq!(rt; piece.copy(alloc)?.as_str(), "Ada");
 /// ```
 pub struct Piece<S: InputStr> {
+    /// The characters between the quotes, as the source has them.
     pub text: S,
-    /// Whether its escapes are read in the lossy mode; `None` if it has none.
+    /// `None` if the text has no escapes. Otherwise whether they are read in the lossy mode, in
+    /// which the escape of a surrogate that is alone is U+FFFD (RFC 8259, section 8.2).
     pub escaped: Option<bool>,
     pub ghost spells: { ∥ ((s : List ℕ) × Says s escaped (S.bytes text)) ∥₁ },
     pub ghost marked: { IsSome escaped → ¬ (NoEscape (S.bytes text)) },
@@ -41,7 +44,7 @@ impl<S: InputStr> Clone for Piece<S> {
 impl<S: InputStr> Copy for Piece<S> {}
 
 impl<S: InputStr> Piece<S> {
-    /// Creates a piece of a text without escapes.
+    /// Creates a piece from a text that has no escapes: `text` is what it says.
     #[inline(always)]
     pub fn plain(text: S) -> Piece<S>
         ensures escaped { result.escaped ≡ None }
@@ -53,7 +56,7 @@ impl<S: InputStr> Piece<S> {
         }
     }
 
-    /// Returns the text, exactly if it needs no unescaping.
+    /// Returns the text as the source lends it, or `None` exactly if it has escapes.
     #[inline(always)]
     pub fn lent(self) -> Option<S>
         ensures text { IfSome result (λ t. (s : List ℕ) → Says s self.escaped (S.bytes self.text)
@@ -67,8 +70,8 @@ impl<S: InputStr> Piece<S> {
         }
     }
 
-    /// Returns the text, lent where it needs no unescaping. Fails with `NoMemory` if memory runs
-    /// out.
+    /// Returns the text with its escapes read: borrowed from the piece, or a string of its own if
+    /// that needs memory. Fails with `NoMemory` if memory runs out.
     #[inline(always)]
     pub fn to_text(&self, alloc: Global) -> Result<CowStr<'_>>
         ensures ok { IfOk result (λ v. (s : List ℕ)
@@ -81,7 +84,8 @@ impl<S: InputStr> Piece<S> {
         }
     }
 
-    /// Returns the text as a string of its own. Fails with `NoMemory` if memory runs out.
+    /// Returns the text, with its escapes read, as a string of its own. Fails with `NoMemory` if
+    /// memory runs out.
     #[inline]
     pub fn copy(self, alloc: Global) -> Result<String>
         ensures ok { IfOk result (λ v. (s : List ℕ) → Says s self.escaped (S.bytes self.text)
@@ -104,8 +108,8 @@ impl<S: InputStr> Piece<S> {
     }
 }
 
-/// Returns the text of a piece, borrowed exactly if it needs no unescaping. Fails with `NoMemory`
-/// if memory runs out.
+/// Returns the text of a piece with its escapes read: borrowed for `'a` exactly if it has no
+/// escapes, and a string of its own otherwise. Fails with `NoMemory` if memory runs out.
 #[inline]
 pub fn lend<'a>(piece: Piece<&'a str>, alloc: Global) -> Result<CowStr<'a>>
     ensures ok { IfOk result (λ v. (s : List ℕ) → Says s piece.entry.escaped piece.entry.text.now

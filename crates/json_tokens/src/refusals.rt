@@ -4,7 +4,7 @@ ghost use Rattle.json_tokens.specs.Refusals.{is_refusal as spec_is_refusal, erro
 
 use json_io::{Error, ErrorCode, Place};
 
-/// Returns the error of this code, without a place.
+/// Returns an error with this code, without a place in an input.
 pub fn error_without_place(code: ErrorCode) -> Error
     ensures { result ≡ spec_refusal code }
 {
@@ -14,7 +14,8 @@ pub fn error_without_place(code: ErrorCode) -> Error
     }
 }
 
-/// Returns whether the code is one by which a reader refuses a tree.
+/// Returns whether the code is one with which a reader refuses valid JSON that is no value of its
+/// type: `TypeUnmatched`, `NumberOutOfRange` or `ExpectedNumericKey`.
 pub fn is_refusal(code: ErrorCode) -> bool
     ensures { result ≡ spec_is_refusal code }
 {

@@ -29,7 +29,8 @@ use json_value::Value;
 use std::alloc::Global;
 use std::marker::Model;
 
-/// The tokens of a text that begins with a value. What follows the value is not looked at.
+/// The tokens of the first value of a JSON text. What follows the value is not looked at, unless
+/// [`TextTokens::finish`] is called.
 ///
 /// ```
 /// use json_tokens::{TextTokens, TokenKind, Tokens};
@@ -67,8 +68,8 @@ impl<'a> Model for TextTokens<'a> {
 }
 
 impl<'a> TextTokens<'a> {
-    /// Creates a source at the beginning of the text. It reads values of at most 254 levels, unless
-    /// `depth` sets another limit.
+    /// Creates a source at the beginning of `text`. Arrays and objects may be nested in at most 254
+    /// levels, unless [`TextTokens::depth`] sets another limit.
     pub fn new(text: &'a str) -> TextTokens<'a>
         ensures text { result.parser.text ≡ text.now }
         ensures start { (result.parser.start ≡ 0) × (result.parser.limit ≡ 254) }
@@ -82,8 +83,9 @@ impl<'a> TextTokens<'a> {
         }
     }
 
-    /// Returns the tokens of the value at this offset of the text, in bytes, with the limit of
-    /// `new`. Errors have their places in the whole text.
+    /// Creates a source of the value at `index`, an offset in bytes at a character boundary of
+    /// `text`. Arrays and objects may be nested in at most 254 levels. Errors have their places in
+    /// the whole text.
     pub fn at(text: &'a str, index: usize) -> TextTokens<'a>
         requires { IsCharBoundary text.now index }
         ensures text { result.parser.text ≡ text.now }
@@ -98,8 +100,8 @@ impl<'a> TextTokens<'a> {
         }
     }
 
-    /// Returns the same tokens with another limit of levels, at most 1,024. To be called before the
-    /// first token.
+    /// Returns the source with another limit: arrays and objects may be nested in at most `depth`
+    /// levels, itself at most 1,024. Has to be called before any token is asked for.
     pub fn depth(self, depth: u32) -> TextTokens<'a>
         requires most { depth ≤ 1024 }
         requires fresh { IsFreshReader self }
@@ -116,8 +118,9 @@ impl<'a> TextTokens<'a> {
         }
     }
 
-    /// Returns the same tokens in the lossy mode, in which no surrogate is an error: the escape of
-    /// one that is alone is U+FFFD (RFC 8259, section 8.2). To be called before the first token.
+    /// Returns the source in the lossy mode: an escape of a surrogate that is alone is no error,
+    /// and is read as U+FFFD (RFC 8259, section 8.2). Has to be called before any token is asked
+    /// for.
     pub fn lossy(self) -> TextTokens<'a>
         requires { IsFreshReader self }
         ensures text { result.parser.text ≡ self.entry.parser.text }
@@ -133,8 +136,8 @@ impl<'a> TextTokens<'a> {
         }
     }
 
-    /// Returns the error that was returned in place of a token: `NoMemory`, or the error of the
-    /// value, which is returned for the first token that needs the byte at its place.
+    /// Returns the error that a call returned, or `None` if none failed: `NoMemory`, or where and
+    /// why the input is no valid JSON.
     pub fn failure(&self) -> Option<Error>
         ensures same { result ≡ self.now.failed }
         ensures cause { IfSome self.now.failed (TextFails self.now.parser) }
@@ -142,8 +145,8 @@ impl<'a> TextTokens<'a> {
         self.failed
     }
 
-    /// Returns the offset right after the value, which was taken, in bytes from the beginning of
-    /// the text.
+    /// Returns the offset right after the value, in bytes from the beginning of the text. All
+    /// tokens of the value have to be taken.
     pub fn index(&self) -> usize
         requires over { (text_tokens_state self.now).expected ≡ state_in [] }
         requires peeked { (text_tokens_state self.now).peeked ≡ None }
@@ -154,8 +157,8 @@ impl<'a> TextTokens<'a> {
         self.parser.index()
     }
 
-    /// Takes the rest of the text, after the value, which was taken. Fails with the fault of the
-    /// text if more than whitespace follows.
+    /// Checks that only whitespace follows the value; fails with the error of the text otherwise.
+    /// All tokens of the value have to be taken.
     pub fn finish(self) -> Result<()>
         requires over { (text_tokens_state self).expected ≡ state_in [] }
         requires peeked { (text_tokens_state self).peeked ≡ None }
@@ -182,7 +185,8 @@ impl<'a> TextTokens<'a> {
         }
     }
 
-    /// Reads the next event, where none waits. Whether one waits then; else it failed.
+    /// Reads the next event if none is waiting. Returns whether one is waiting then; otherwise it
+    /// failed.
     #[inline(never)]
     fn read(&mut self) -> bool
         requires whole { NotWhole (text_tokens_state self.old) }
@@ -210,7 +214,7 @@ impl<'a> TextTokens<'a> {
         }
     }
 
-    /// The kind of the next token.
+    /// Returns the kind of the next token.
     #[inline(always)]
     fn look(&mut self) -> Result<TokenKind>
         requires { NotWhole (text_tokens_state self.old) }
@@ -260,7 +264,7 @@ impl<'a> TextTokens<'a> {
         }
     }
 
-    /// Takes the tokens of one tree, and returns a value of it.
+    /// Takes the tokens of one tree, and returns it as a value.
     fn keep(&mut self, alloc: Global) -> Result<Value>
         requires { WantsValue (text_tokens_state self.old) }
         ensures ok { IfOk result (λ v.
@@ -331,7 +335,7 @@ impl<'a> TextTokens<'a> {
     }
 }
 
-/// Shows that in each state of a source over a text some tokens were taken so far.
+/// Shows that a source over a text has always taken some list of tokens, maybe an empty one.
 pub fn text_row_exists(tokens: &TextTokens<'_>)
     ensures { (ts : List Tok) × text_taken tokens.now ts }
 {

@@ -18,8 +18,13 @@ use json_io::Result;
 use json_value::Value;
 use std::alloc::Global;
 
-/// Gives the tokens of a value from left to right. Errors are sticky: after an error every later
-/// call returns it again, or finds nothing.
+/// A source of tokens: returns the tokens of one JSON value from left to right, in one pass. `S` is
+/// how it lends texts, `&'a str` for both sources of this crate.
+///
+/// A call takes tokens: the next call goes on after them. Errors are sticky: after a call has
+/// failed, every later call returns the same error; those that return no `Result` take nothing.
+/// [`Tokens::integer`] and all calls after it are fast paths, which a source need not have: each
+/// may take nothing although such a token is next.
 ///
 /// ```
 /// use json_tokens::{TextTokens, Token, Tokens};
@@ -34,16 +39,18 @@ pub trait Tokens<S: InputStr> {
     /// The tokens that were taken so far.
     ghost taken: { Self → List Tok → Type 0 };
 
+    /// Which tokens may come next, whether the kind of the next one was asked for, and which error
+    /// was returned.
     ghost state: { Self → TokensState };
 
-    /// The errors of the calls that are passed no allocator.
+    /// The errors with which calls without an allocator may fail.
     ghost causes: { Self → ErrorOf → Type 0 };
 
-    /// Where a value is that `value` returns.
+    /// Where the `Value` that [`Tokens::value`] returns is in a document.
     ghost placed: { Self → ValueOf → Type 0 };
 
-    /// The kind of the next token. Takes nothing. Fails at a fault of the input, or if memory runs
-    /// out, and again after any error.
+    /// Returns the kind of the next token, and takes nothing. Fails if the input is no valid JSON
+    /// up to there, or if memory runs out. After an error, fails with the same error again.
     fn peek(&mut self) -> Result<TokenKind>
         requires { NotWhole (state self.old) }
         ensures ok { IfOk result (λ k. Peeks (state self.old) (state self.new) k) }
@@ -54,8 +61,8 @@ pub trait Tokens<S: InputStr> {
         ensures cause { FailsForCause (state self.old) (causes self.new) result }
         ensures again { IfSome (state self.old).failed (λ e. result ≡ Err e) };
 
-    /// Takes the next token. Fails at a fault of the input, or if memory runs out, and again after
-    /// any error.
+    /// Takes and returns the next token. Fails if the input is no valid JSON up to there, or if
+    /// memory runs out. After an error, fails with the same error again.
     fn next(&mut self) -> Result<TokenOf<S>>
         requires { NotWhole (state self.old) }
         ensures ok { IfOk result (λ y. (x : Tok) × DenotesToken S.bytes y x
@@ -65,8 +72,9 @@ pub trait Tokens<S: InputStr> {
         ensures cause { FailsForCause (state self.old) (causes self.new) result }
         ensures again { IfSome (state self.old).failed (λ e. result ≡ Err e) };
 
-    /// Takes the tokens of one tree, and returns a value of it: each member is kept, and each
-    /// literal of a number. Fails with `NoMemory` if memory runs out.
+    /// Takes the next value with all that is within it, and returns it as a `Value`, which keeps
+    /// each member and the literal of each number. Fails as [`Tokens::next`] does, or with
+    /// `NoMemory` if `alloc` has no memory.
     fn value(&mut self, alloc: Global) -> Result<Value>
         requires { WantsValue (state self.old) }
         ensures ok { IfOk result (λ v. TakesTree taken state self.old self.new (tree_of v)) }
@@ -77,8 +85,8 @@ pub trait Tokens<S: InputStr> {
             → IfErr result (λ e. (e ≡ no_memory) ⊎ causes self.new e) }
         ensures again { IfSome (state self.old).failed (λ e. result ≡ Err e) };
 
-    /// Takes the tokens of one tree. Fails at a fault of the input, or if memory runs out, and
-    /// again after any error.
+    /// Takes the next value with all that is within it. Fails if the input is no valid JSON up to
+    /// its end, or if memory runs out. After an error, fails with the same error again.
     fn skip(&mut self) -> Result<()>
         requires { WantsValue (state self.old) }
         ensures ok { OnOk result ((t : Tree) × TakesTree taken state self.old self.new t) }
@@ -87,8 +95,9 @@ pub trait Tokens<S: InputStr> {
         ensures cause { FailsForCause (state self.old) (causes self.new) result }
         ensures again { IfSome (state self.old).failed (λ e. result ≡ Err e) };
 
-    /// Takes what is left of the innermost open container, its end included. Fails at a fault of
-    /// the input, or if memory runs out, and again after any error.
+    /// Takes all that is left of the innermost open array or object, and its end. Fails if the
+    /// input is no valid JSON up to there, or if memory runs out. After an error, fails with the
+    /// same error again.
     fn leave(&mut self) -> Result<()>
         requires { IsOpen (state self.old).expected }
         ensures ok { OnOk result (Leaves taken state self.old self.new) }
@@ -97,8 +106,8 @@ pub trait Tokens<S: InputStr> {
         ensures cause { FailsForCause (state self.old) (causes self.new) result }
         ensures again { IfSome (state self.old).failed (λ e. result ≡ Err e) };
 
-    /// Takes the next token if it is an integer from 0 to `most` that is found at once. Otherwise
-    /// nothing is taken: `peek` and `next` return the next token.
+    /// Takes and returns the next token by a fast path if it is an integer from 0 to `most`.
+    /// Otherwise returns `None` and takes nothing: `peek` and `next` still return that token.
     fn integer(&mut self, most: u64) -> Option<u64>
         requires { NotWhole (state self.old) }
         ensures most { IfSome result (λ n. n ≤ most) }
@@ -111,9 +120,9 @@ pub trait Tokens<S: InputStr> {
         None
     }
 
-    /// Takes the next token if it is an integer below 0 that is found at once, and returns its
-    /// magnitude, which is at most `least`. Otherwise nothing is taken: `peek` and `next` return
-    /// the next token.
+    /// Takes the next token by a fast path if it is an integer from `-least` to -1, and returns its
+    /// magnitude, without the sign. `least` is at most 2^63. Otherwise returns `None` and takes
+    /// nothing: `peek` and `next` still return that token.
     fn negative(&mut self, least: u64) -> Option<u64>
         requires whole { NotWhole (state self.old) }
         requires fits { least ≤ 2 ^ 63 }
@@ -127,7 +136,8 @@ pub trait Tokens<S: InputStr> {
         None
     }
 
-    /// Takes the next token if it is `null` and is found at once, and returns whether it was taken.
+    /// Takes the next token by a fast path if it is `null`, and returns true. Otherwise returns
+    /// false and takes nothing.
     fn null(&mut self) -> bool
         requires { NotWhole (state self.old) }
         ensures takes { result ≡ true → TakesTree taken state self.old self.new null }
@@ -138,8 +148,8 @@ pub trait Tokens<S: InputStr> {
         false
     }
 
-    /// Takes the next token if it is `true` or `false` and is found at once, and returns which.
-    /// Otherwise nothing is taken.
+    /// Takes and returns the next token by a fast path if it is `true` or `false`. Otherwise
+    /// returns `None` and takes nothing.
     fn boolean(&mut self) -> Option<bool>
         requires { NotWhole (state self.old) }
         ensures takes { MatchOption result (self.new ≡ self.old) (λ b.
@@ -150,7 +160,8 @@ pub trait Tokens<S: InputStr> {
         None
     }
 
-    /// Takes the next token where it is a text that is found at once. Else nothing is taken.
+    /// Takes and returns the next token by a fast path if it is a string. Otherwise returns `None`
+    /// and takes nothing.
     fn text(&mut self) -> Option<Piece<S>>
         requires { NotWhole (state self.old) }
         ensures takes { MatchOption result (self.new ≡ self.old) (λ p.
@@ -161,7 +172,8 @@ pub trait Tokens<S: InputStr> {
         None
     }
 
-    /// Takes the next token where it is a name that is found at once. Else nothing is taken.
+    /// Takes and returns the next token by a fast path if it is the key of a member. Otherwise
+    /// returns `None` and takes nothing.
     fn key(&mut self) -> Option<Piece<S>>
         requires { NotWhole (state self.old) }
         ensures takes { MatchOption result (self.new ≡ self.old) (λ p.
@@ -172,8 +184,8 @@ pub trait Tokens<S: InputStr> {
         None
     }
 
-    /// Takes the next token where it is the bracket that opens a container of the kind and is found
-    /// at once. Else nothing is taken.
+    /// Takes the next token by a fast path if it opens an array or object, as `kind` says, and
+    /// returns true. Otherwise returns false and takes nothing.
     fn begins(&mut self, kind: Kind) -> bool
         requires { NotWhole (state self.old) }
         ensures begun { result ≡ true
@@ -186,8 +198,8 @@ pub trait Tokens<S: InputStr> {
         false
     }
 
-    /// Takes the next token where it is the bracket that closes a container of the kind and is
-    /// found at once. Else nothing is taken.
+    /// Takes the next token by a fast path if it closes an array or object, as `kind` says, and
+    /// returns true. Otherwise returns false and takes nothing.
     fn ends(&mut self, kind: Kind) -> bool
         requires { NotWhole (state self.old) }
         ensures ended { result ≡ true → TakesOne taken state self.old self.new (end_token kind) }

@@ -21,7 +21,7 @@ use json_value::{Value, View};
 use std::alloc::Global;
 use std::mem;
 
-/// The tokens of a value. Its calls fail with no error but `NoMemory`.
+/// The tokens of a `Value`, given as a view of it. Its calls fail with `NoMemory` alone.
 ///
 /// ```
 /// use json_tokens::{Token, Tokens, ValueTokens};
@@ -45,7 +45,8 @@ pub struct ValueTokens<'a> {
 }
 
 impl<'a> ValueTokens<'a> {
-    /// Creates a source at the beginning of the value.
+    /// Creates a source at the beginning of the value that `view` shows. `alloc` is for the list of
+    /// open arrays and objects.
     pub fn new(alloc: Global, view: View<'a>) -> ValueTokens<'a>
         ensures state { value_state result ≡ at_begin (seen view.entry) }
         ensures target { next_target result.next result.inner ≡ Some (view_target view.entry) }
@@ -72,7 +73,7 @@ impl<'a> ValueTokens<'a> {
         }
     }
 
-    // Memory ran out.
+    // Notes that memory ran out, and returns that error.
     fn exhaust(&mut self) -> Error
         ensures error { result ≡ no_memory }
         ensures failed { value_state self.new ≡ record (value_state self.old) { failed = true } }
@@ -81,7 +82,7 @@ impl<'a> ValueTokens<'a> {
         error_without_place(ErrorCode::NoMemory)
     }
 
-    // Goes from the next value into what is left of it.
+    // Takes the first token of the next value, an array or object: what is left of it is `level`.
     fn enter(&mut self, level: Level<'a>) -> Result<()>
         ensures ok { let s = value_state self.old in OnOk result (value_state self.new
             ≡ record s {
@@ -103,7 +104,7 @@ impl<'a> ValueTokens<'a> {
         }
     }
 
-    // Goes on after the innermost container.
+    // Leaves the innermost open array or object.
     fn exit(&mut self)
         ensures state { let s = value_state self.old in (l : Left) (ls : List Left)
             → s.levels ≡ l ∷ ls

@@ -9,7 +9,7 @@ use crate::token::{Token, TokenKind, TokenOf};
 use json_doc::JsonType;
 use json_value::View;
 
-/// The kind of a value's first token.
+/// Returns the kind of the first token of a value.
 pub(crate) fn view_kind(view: View<'_>) -> TokenKind
     ensures { result ≡ first_kind (seen view.entry) }
 {
@@ -26,7 +26,7 @@ pub(crate) fn view_kind(view: View<'_>) -> TokenKind
     }
 }
 
-/// The token of a value that is no container.
+/// Returns the token of a value that is no array or object.
 pub(crate) fn scalar_token<'a>(view: View<'a>) -> TokenOf<&'a str>
     ensures { (x : Tok) → tokens (seen view.entry) ≡ x ∷ [] → DenotesToken (λ s. s.now) result x }
 {

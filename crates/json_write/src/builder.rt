@@ -32,7 +32,7 @@ pub(crate) struct ValueBuilder {
     failed: Option<Error>,
 }
 
-// An integer lies outside `i64` and `u64`.
+// Returns the error of an integer that lies outside `i64` and `u64`.
 fn out_of_range_error() -> Error
     ensures { result ≡ out_of_range }
 {
@@ -81,7 +81,7 @@ impl ValueBuilder {
         }
     }
 
-    // A value more.
+    // Adds a value to the innermost open container.
     fn place(&mut self, value: Value) -> Result<()>
         ensures { Builds (value_added (tree_of value)) StopsMemory self.old self.new
             (given null_token) result }
@@ -99,7 +99,7 @@ impl ValueBuilder {
         }
     }
 
-    // Keeps an error.
+    // Keeps an error, and returns it.
     fn refuse(&mut self, error: Error) -> Result<()>
         ensures err { IsErr result }
         ensures takes { Builds build_after (StopsAs error) self.old self.new
@@ -170,7 +170,7 @@ impl ValueBuilder {
         }
     }
 
-    // The root.
+    // Returns the value that was built.
     fn into_value(self) -> Value
         ensures { (t : Tree) → (build_of self).work.top ≡ frame_take (new_frame array) t
             → tree_of result ≡ t }
@@ -263,12 +263,12 @@ impl Events for ValueBuilder {
     }
 }
 
-/// Returns the value of the datum's tree, with each repeated key, at every object, at its first
-/// place with its last value.
+/// Returns the `Value` that `value` is written as. If an object has a key more than once, the last
+/// of its values counts, at the place of the first.
 ///
-/// Fails with `NumberOutOfRange` exactly if an integer that is no key lies outside `i64` and `u64`,
-/// and with `SerExpectKeyIsStrOrNum` exactly if a key has no text; if both are there, the first
-/// from the left decides. Fails with `NoMemory` if memory runs out.
+/// Fails with `NumberOutOfRange` exactly if an integer that is no key lies outside both `i64` and
+/// `u64`, and with `SerExpectKeyIsStrOrNum` exactly if a key has no text; if `value` has both, the
+/// first of them from the left decides. Fails with `NoMemory` if memory runs out.
 pub fn to_value<T: Serialize>(alloc: Global, value: &T) -> Result<Value>
     ensures ok { IfOk result (λ v.
         option_map merged (datum_tree (T.datum value.now)) ≡ Some (tree_of v)) }

@@ -1,5 +1,5 @@
-// What a body gives, one call each. An error that the events answer is answered; what was given is
-// a clause.
+// Calls that write one token each. The body of a `Serialize::serialize` is made of them: their
+// contracts say what was written, and that an error of the events is returned.
 ghost use Rattle.std.specs.Prelude.{Some, [], ◌∷◌, pos};
 ghost use Rattle.std.specs.Fmt.{decimal, signed_decimal};
 ghost use Rattle.json_grammar.specs.Grammar.{number};
@@ -12,7 +12,8 @@ ghost use Rattle.json_write.specs.Writing.{WritesDatumTokens};
 use json_io::Result;
 use json_print::Events;
 
-/// Gives a null. Fails if the events do.
+/// Writes `null` to `out`, where a value may come. Fails with the error of `out`, if its call
+/// fails.
 #[inline(always)]
 pub fn write_null<E: Events>(out: &mut E) -> Result<()>
     requires { AcceptsValue (E.failed out.old) (E.token_state (E.state out.old)) }
@@ -22,7 +23,8 @@ pub fn write_null<E: Events>(out: &mut E) -> Result<()>
     out.null()
 }
 
-/// Gives a truth value. Fails if the events do.
+/// Writes the boolean `b` to `out`, where a value may come. Fails with the error of `out`, if its
+/// call fails.
 #[inline(always)]
 pub fn give_boolean<E: Events>(b: bool, out: &mut E) -> Result<()>
     requires { AcceptsValue (E.failed out.old) (E.token_state (E.state out.old)) }
@@ -32,7 +34,8 @@ pub fn give_boolean<E: Events>(b: bool, out: &mut E) -> Result<()>
     out.boolean(b)
 }
 
-/// Gives an integer. Fails if the events do.
+/// Writes the integer `n` to `out`, where a value may come. Fails with the error of `out`, if its
+/// call fails.
 #[inline(always)]
 pub fn give_int<E: Events>(n: i128, out: &mut E) -> Result<()>
     requires { AcceptsValue (E.failed out.old) (E.token_state (E.state out.old)) }
@@ -42,7 +45,8 @@ pub fn give_int<E: Events>(n: i128, out: &mut E) -> Result<()>
     out.int(n)
 }
 
-/// Gives an integer from zero on. Fails if the events do.
+/// Writes the integer `n`, which is 0 or above, to `out`, where a value may come. Fails with the
+/// error of `out`, if its call fails.
 #[inline(always)]
 pub fn give_uint<E: Events>(n: u128, out: &mut E) -> Result<()>
     requires { AcceptsValue (E.failed out.old) (E.token_state (E.state out.old)) }
@@ -52,7 +56,8 @@ pub fn give_uint<E: Events>(n: u128, out: &mut E) -> Result<()>
     out.uint(n)
 }
 
-/// Gives a number by its literal (RFC 8259, section 6). Fails if the events do.
+/// Writes a number to `out`, where a value may come. `literal` is its text, which has to be a
+/// number of JSON (RFC 8259, section 6). Fails with the error of `out`, if its call fails.
 #[inline(always)]
 pub fn give_literal<E: Events>(literal: &str, out: &mut E) -> Result<()>
     requires number { number literal.now }
@@ -63,7 +68,8 @@ pub fn give_literal<E: Events>(literal: &str, out: &mut E) -> Result<()>
     out.raw_number(literal)
 }
 
-/// Gives a string, by its characters. Fails if the events do.
+/// Writes the string `s` to `out`, where a value may come. `s` is the string itself, without quotes
+/// or escapes. Fails with the error of `out`, if its call fails.
 #[inline(always)]
 pub fn give_text<E: Events>(s: &str, out: &mut E) -> Result<()>
     requires { AcceptsValue (E.failed out.old) (E.token_state (E.state out.old)) }
@@ -73,8 +79,9 @@ pub fn give_text<E: Events>(s: &str, out: &mut E) -> Result<()>
     out.text(s)
 }
 
-/// Begins an array. The hint is how many elements follow, if that is known; it changes nothing that
-/// is given. Fails if the events do.
+/// Writes the beginning of an array to `out`, where a value may come. `hint` is how many elements
+/// follow, if that is known; it changes nothing that is written. Fails with the error of `out`, if
+/// its call fails.
 #[inline(always)]
 pub fn begin_list<E: Events>(hint: Option<usize>, out: &mut E) -> Result<()>
     requires { AcceptsValue (E.failed out.old) (E.token_state (E.state out.old)) }
@@ -84,7 +91,8 @@ pub fn begin_list<E: Events>(hint: Option<usize>, out: &mut E) -> Result<()>
     out.begin_array(hint)
 }
 
-/// Ends the array that was begun last. Fails if the events do.
+/// Writes the end of the innermost open container, an array, to `out`. Fails with the error of
+/// `out`, if its call fails.
 #[inline(always)]
 pub fn end_list<E: Events>(out: &mut E) -> Result<()>
     requires { AcceptsEnd (E.failed out.old) (E.token_state (E.state out.old)) array }
@@ -94,8 +102,9 @@ pub fn end_list<E: Events>(out: &mut E) -> Result<()>
     out.end_array()
 }
 
-/// Begins an object. The hint is how many members follow, if that is known; it changes nothing that
-/// is given. Fails if the events do.
+/// Writes the beginning of an object to `out`, where a value may come. `hint` is how many members
+/// follow, if that is known; it changes nothing that is written. Fails with the error of `out`, if
+/// its call fails.
 #[inline(always)]
 pub fn begin_object<E: Events>(hint: Option<usize>, out: &mut E) -> Result<()>
     requires { AcceptsValue (E.failed out.old) (E.token_state (E.state out.old)) }
@@ -105,7 +114,8 @@ pub fn begin_object<E: Events>(hint: Option<usize>, out: &mut E) -> Result<()>
     out.begin_object(hint)
 }
 
-/// Gives the key of the next member, by its characters. Fails if the events do.
+/// Writes the key of the next member to `out`, where a key may come. `s` is the key itself, without
+/// quotes or escapes. Fails with the error of `out`, if its call fails.
 #[inline(always)]
 pub fn give_key<E: Events>(s: &str, out: &mut E) -> Result<()>
     requires { AcceptsKey (E.failed out.old) (E.token_state (E.state out.old)) }
@@ -115,7 +125,8 @@ pub fn give_key<E: Events>(s: &str, out: &mut E) -> Result<()>
     out.key(s)
 }
 
-/// Ends the object that was begun last. Fails if the events do.
+/// Writes the end of the innermost open container, an object, to `out`. Fails with the error of
+/// `out`, if its call fails.
 #[inline(always)]
 pub fn end_rows<E: Events>(out: &mut E) -> Result<()>
     requires { AcceptsEnd (E.failed out.old) (E.token_state (E.state out.old)) object }

@@ -11,7 +11,8 @@ use crate::event_calls::{begin_object, end_rows, give_key};
 use json_io::Result;
 use json_print::Events;
 
-/// Members of an object in their order: a [`Field`], or a pair of members and those after them.
+/// The members of an object in the order in which they are written: one [`Field`], or a pair of two
+/// `Fields`, the second written after the first.
 ///
 /// ```
 /// use json_print::Serializer;
@@ -24,18 +25,19 @@ use json_print::Events;
 /// assert_eq!(rt; out.into_inner().as_slice(), b"{\"born\":1815,\"died\":1852}".as_slice());
 /// ```
 pub trait Fields {
-    /// Their keys and values.
+    /// The keys and values of the members.
     ghost rows: { Self → Rows };
 
-    /// Gives the members to `out`, up to the first that is refused or meets an error, which is
-    /// returned. A key has to be allowed there.
+    /// Writes the members to `out`, and stops at the first error that `out` or a value returns,
+    /// which is returned. `out` has to be where a key may come. If a call of `out` failed before,
+    /// returns that error again and writes nothing.
     fn give<E: Events>(&self, out: &mut E) -> Result<()>
         requires { E.failed out.old ≡ None → AtKey (E.token_state (E.state out.old)) }
         ensures { WritesDatumTokens E.after E.stopped (E.state out.old) (E.state out.new)
             (E.failed out.old) (E.failed out.new) (rows_parts (rows self.now)) result };
 }
 
-/// A member of an object: its key, and what its value is written from.
+/// A member of an object that is to be written: its key and its value.
 ///
 /// ```
 /// use json_print::Serializer;
@@ -49,7 +51,7 @@ pub trait Fields {
 pub struct Field<'k, 'v, V> {
     /// The key.
     pub name: &'k str,
-    /// The value.
+    /// The value, which is written with its own [`Serialize`].
     pub value: &'v V,
 }
 
@@ -73,8 +75,9 @@ impl<A: Fields, B: Fields> Fields for (A, B) {
     }
 }
 
-/// Gives an object of these members: the body of [`Serialize::serialize`] of a type with fields.
-/// Fails if the events do.
+/// Writes an object with these members to `out`: all that [`Serialize::serialize`] of a type with
+/// fields has to do. Stops at the first error that `out` or a value returns, and returns it. `out`
+/// has to be where a value may come.
 #[inline(always)]
 pub fn serialize_fields<F: Fields, E: Events>(fields: &F, out: &mut E) -> Result<()>
     requires { AcceptsValue (E.failed out.old) (E.token_state (E.state out.old)) }

@@ -32,7 +32,7 @@ impl KeyTest {
         }
     }
 
-    // A value was taken.
+    // Notes that a value was taken.
     fn finish_value(&mut self) -> Result<()>
         ensures { Tests testing.passed self.old self.new (given null_token) result }
     {
@@ -140,7 +140,7 @@ impl Events for KeyTest {
     }
 }
 
-// Whether each key of the value has a text.
+// Checks that each key of the value has a text.
 pub(crate) fn test_keys<T: Serialize>(alloc: Global, value: &T) -> Result<()>
     ensures ok { OnOk result ((t : Tree) × (tree_of_datum (T.datum value.now) ≡ Some t)) }
     ensures err { FailsOnKeyText (T.datum value.now) result }

@@ -63,7 +63,7 @@ impl OpenContainer {
         }
     }
 
-    // The first element; null where there is none.
+    // Returns the first element, or null if there is none.
     pub(crate) fn into_first(mut self) -> Value
         ensures { (t : Tree) → (frame_of self).values ≡ t ∷ [] → tree_of result ≡ t }
     {

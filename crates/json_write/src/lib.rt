@@ -1,10 +1,11 @@
-//! Writes data of a program's own types as JSON (RFC 8259): as a text in memory, to any sink, or as
-//! a value.
+//! Writes values of a program's own types as JSON (RFC 8259): as a text in memory, to any sink, or
+//! as a `Value`.
 //!
-//! What implements [`Serialize`] means a datum: null, a boolean, an integer, a text, a number's
-//! literal, a list, or rows of keys and values. Its tree has a member for each row, whose name is
-//! the text of the row's key: a text is its own, an integer has its decimal text, a boolean `true`
-//! or `false`.
+//! A value of a type with [`Serialize`] stands for a datum: null, a boolean, an integer, a string,
+//! the literal of a number, a list, or rows of keys and values. Rows are written as an object with
+//! a member for each row. The member's name is the text of the row's key: a string is its own text,
+//! an integer has its decimal text, and a boolean has `true` or `false`. Other keys have no text,
+//! and cannot be written.
 //!
 //! ```
 //! use json_write::to_string;

@@ -27,7 +27,7 @@ impl Nesting {
         }
     }
 
-    // A value was taken.
+    // Notes that a value was taken.
     pub(crate) fn finish_value(&mut self)
         ensures { nesting_state self.new ≡ after_token (nesting_state self.old) null_token }
     {

@@ -9,8 +9,8 @@ use crate::KeyRoom;
 use json_io::Result;
 use json_print::Events;
 
-/// What can be written as JSON. It means a datum: null, a boolean, an integer, a text, a number's
-/// literal, a list, or rows of keys and values.
+/// A type whose values can be written as JSON. Each value stands for a datum: null, a boolean, an
+/// integer, a string, the literal of a number, a list, or rows of keys and values.
 ///
 /// ```
 /// use json_write::to_string;
@@ -18,21 +18,23 @@ use json_print::Events;
 /// assert_eq!(rt; to_string(alloc, &rates)?.as_str(), "[7,null]");
 /// ```
 pub trait Serialize {
-    /// What it means.
+    /// The datum that a value stands for.
     ghost datum: { Self → Datum };
 
-    /// Gives the tokens of the datum's tree to `out`, up to the first that meets an error, which is
-    /// returned. If a key has no text, those before the first such key are given, and
-    /// `SerExpectKeyIsStrOrNum` is returned. If the events had returned an error it is returned
-    /// again, and nothing changes; else a value has to be allowed there.
+    /// Writes the value to `out`, token by token, and stops at the first error that `out` returns,
+    /// which is returned. Fails with `SerExpectKeyIsStrOrNum` if a key has no text; the tokens
+    /// before the first such key were then written. `out` has to be where a value may come. If a
+    /// call of `out` failed before, returns that error again and writes nothing.
     fn serialize<E: Events>(&self, out: &mut E) -> Result<()>
         requires { AcceptsValue (E.failed out.old) (E.token_state (E.state out.old)) }
         ensures { WritesDatumTokens E.after E.stopped (E.state out.old) (E.state out.new)
             (E.failed out.old) (E.failed out.new)
             (parts (datum self.now)) result };
 
-    /// The text of the datum as a key: a text is its own, an integer has its decimal text, a
-    /// boolean `true` or `false`, and nothing else has one. Takes no memory.
+    /// Returns the text of the value as the key of a member: a string is its own text, an integer
+    /// has its decimal text, and a boolean has `true` or `false`. Returns `None` for everything
+    /// else. A text that is not the value's own is written into `room`, and is valid as long as
+    /// `room` and the value are borrowed. Takes no memory.
     fn key<'k>(&'k self, room: &'k mut KeyRoom) -> Option<&'k str>
         ensures { option_map (λ s. s.now) result ≡ key_of (datum self.now) };
 }

@@ -9,8 +9,9 @@ use json_io::{Result, VecSink};
 use json_print::Serializer;
 use std::alloc::Global;
 
-/// Returns the compact text of the value's tree. Fails with `SerExpectKeyIsStrOrNum` exactly if a
-/// key has no text, and with `NoMemory` if memory runs out.
+/// Returns the bytes of the JSON text that `value` is written as, without whitespace. They are
+/// UTF-8. Fails with `SerExpectKeyIsStrOrNum` exactly if a key has no text (is no string, integer
+/// or boolean), and with `NoMemory` if memory runs out.
 pub fn to_vec<T: Serialize>(alloc: Global, value: &T) -> Result<Vec<u8>>
     ensures ok { IfOk result (λ v. datum_text None (T.datum value.now) ≡ Some v.items) }
     ensures utf8 { IfOk result (λ v. IsUtf8 v.items) }
@@ -21,8 +22,9 @@ pub fn to_vec<T: Serialize>(alloc: Global, value: &T) -> Result<Vec<u8>>
     Ok(out.into_vec())
 }
 
-/// Returns the text of the value's tree, indented by two spaces. Fails with
-/// `SerExpectKeyIsStrOrNum` exactly if a key has no text, and with `NoMemory` if memory runs out.
+/// Returns the bytes of the JSON text that `value` is written as, each level indented by two
+/// spaces. They are UTF-8. Fails with `SerExpectKeyIsStrOrNum` exactly if a key has no text (is no
+/// string, integer or boolean), and with `NoMemory` if memory runs out.
 pub fn to_vec_pretty<T: Serialize>(alloc: Global, value: &T) -> Result<Vec<u8>>
     ensures ok { IfOk result (λ v. datum_text two_spaces (T.datum value.now) ≡ Some v.items) }
     ensures utf8 { IfOk result (λ v. IsUtf8 v.items) }
@@ -33,8 +35,9 @@ pub fn to_vec_pretty<T: Serialize>(alloc: Global, value: &T) -> Result<Vec<u8>>
     Ok(out.into_inner().into_vec())
 }
 
-/// Returns the compact text of the value's tree. Fails with `SerExpectKeyIsStrOrNum` exactly if a
-/// key has no text, and with `NoMemory` if memory runs out.
+/// Returns the JSON text that `value` is written as, without whitespace. Fails with
+/// `SerExpectKeyIsStrOrNum` exactly if a key has no text (is no string, integer or boolean), and
+/// with `NoMemory` if memory runs out.
 pub fn to_string<T: Serialize>(alloc: Global, value: &T) -> Result<String>
     ensures ok { IfOk result (λ s. datum_text None (T.datum value.now) ≡ Some (string_bytes s)) }
     ensures err { FailsOnKeyText (T.datum value.now) result }
@@ -43,8 +46,9 @@ pub fn to_string<T: Serialize>(alloc: Global, value: &T) -> Result<String>
     Ok(unsafe { String::from_utf8_unchecked(bytes) })
 }
 
-/// Returns the text of the value's tree, indented by two spaces. Fails with
-/// `SerExpectKeyIsStrOrNum` exactly if a key has no text, and with `NoMemory` if memory runs out.
+/// Returns the JSON text that `value` is written as, each level indented by two spaces. Fails with
+/// `SerExpectKeyIsStrOrNum` exactly if a key has no text (is no string, integer or boolean), and
+/// with `NoMemory` if memory runs out.
 pub fn to_string_pretty<T: Serialize>(alloc: Global, value: &T) -> Result<String>
     ensures ok { IfOk result (λ s.
         datum_text two_spaces (T.datum value.now) ≡ Some (string_bytes s)) }

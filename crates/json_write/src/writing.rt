@@ -13,7 +13,8 @@ use json_io::{LentSink, Result, Sink};
 use json_print::{CompactFormatter, Formatter, PrettyFormatter, Serializer};
 use std::alloc::Global;
 
-// The text by the calls of a formatter that has written nothing. Gives the writer back.
+// Writes the text of the value to the writer, by a formatter that has written nothing. Returns the
+// writer.
 fn formatted<W: Sink, T: Serialize, F: Formatter + Drop>(
     alloc: Global,
     value: &T,
@@ -31,9 +32,10 @@ fn formatted<W: Sink, T: Serialize, F: Formatter + Drop>(
     (out.into_inner(), went)
 }
 
-/// Writes the compact text of the value's tree. The keys are tested first: where one has no text
-/// the sink gained nothing. Where the sink failed or memory ran out it may have gained a front of
-/// the text.
+/// Writes `value` as a JSON text without whitespace, and appends it to the sink `writer`. Fails
+/// with `SerExpectKeyIsStrOrNum` if a key has no text; all keys are tested first, and nothing is
+/// appended then. If the sink fails, or memory runs out, a prefix of the text may have been
+/// appended.
 pub fn to_writer<K: Sink, T: Serialize>(alloc: Global, writer: &mut K, value: &T) -> Result<()>
     ensures { WritesDatum (K.state writer.old) (K.state writer.new)
         None (T.datum value.now) result }
@@ -44,9 +46,10 @@ pub fn to_writer<K: Sink, T: Serialize>(alloc: Global, writer: &mut K, value: &T
     outcome
 }
 
-/// Writes the text of the value's tree, indented by two spaces. The keys are tested first: where
-/// one has no text the sink gained nothing. Where the sink failed or memory ran out it may have
-/// gained a front of the text.
+/// Writes `value` as a JSON text, each level indented by two spaces, and appends it to the sink
+/// `writer`. Fails with `SerExpectKeyIsStrOrNum` if a key has no text; all keys are tested first,
+/// and nothing is appended then. If the sink fails, or memory runs out, a prefix of the text may
+/// have been appended.
 pub fn to_writer_pretty<K: Sink, T: Serialize>(
     alloc: Global,
     writer: &mut K,
