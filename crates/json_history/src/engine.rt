@@ -29,9 +29,9 @@ fn compact_style() -> Style<'static>
     }
 }
 
-/// Reads the JSON text that `source` has left, makes `calls` in turn on a new history of its value,
-/// and writes the compact text of the current value to `sink`, which is then flushed. There must be
-/// fewer than 2^32 calls.
+/// Reads the JSON text that `source` has left, and makes `calls` in turn on a new history of its
+/// value. Then writes the compact text of the current value to `sink`, and flushes it. There must
+/// be fewer than 2^32 calls.
 ///
 /// Fails with:
 ///

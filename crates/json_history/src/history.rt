@@ -97,8 +97,8 @@ impl History {
     /// Applies `edit` to the current value. Nothing can be redone afterwards: edits that were
     /// undone are dropped.
     ///
-    /// Fails with `NotFound` if a key or an index that the edit needs is missing, with
-    /// `TypeUnmatched` if it needs an object or an array and meets another value, and with
+    /// Fails with `NotFound` if a key or an index that the edit needs is missing. Fails with
+    /// `TypeUnmatched` if the edit needs an object or an array and meets another value. Fails with
     /// `NoMemory` if memory runs out. After an error the value, the edits to undo and those to redo
     /// are the same as before the call.
     pub fn apply(&mut self, alloc: Global, edit: Edit) -> Result<()>

@@ -238,9 +238,9 @@ fn remove_below(root: &mut Value, alloc: Global, prefix: &[String], last: &str) 
 /// Removes the value that the tokens reference, as the operation `remove` does
 /// (RFC 6902, section 4.2). Of a key that repeats, all members are removed.
 ///
-/// Fails with `NotFound` or `TypeUnmatched` if the tokens reference nothing, with `TypeUnmatched`
-/// if there are none, since the root cannot be removed, and with `NoMemory` if memory runs out. An
-/// error leaves `root` unspecified.
+/// Fails with `NotFound` or `TypeUnmatched` if the tokens reference nothing. Fails with
+/// `TypeUnmatched` if there are no tokens: the root cannot be removed. Fails with `NoMemory` if
+/// memory runs out. An error leaves `root` unspecified.
 pub fn remove(root: &mut Value, alloc: Global, tokens: &[String]) -> Result<()>
     ensures ok { OnOk result (Makes (removed_at (map string_bytes tokens.now) (tree_of root.old))
         root.new) }

@@ -117,7 +117,7 @@ fn default_style() -> Style<'static>
     }
 }
 
-/// Reads the JSON text that `source` has left, patches its value as `command` asks, and writes the
+/// Reads the JSON text that `source` has left and patches its value as `command` asks. Writes the
 /// compact text of the result to `sink`, which is then flushed. A patch must have fewer than 2^32
 /// operations.
 ///

@@ -115,9 +115,9 @@ impl PatchError {
     /// that `op` names, as in `NotFound in operation 0 at /a/0`. `patch` is the patch whose
     /// application failed with this error.
     ///
-    /// Leaves `path` out if `op` is `None`, if `patch` has no such operation, if none or several
-    /// members of it are named `path`, or if that member is not a string. Fails with `NoMemory` if
-    /// memory runs out.
+    /// Leaves `path` out if `op` is `None` or `patch` has no such operation. Leaves it out too
+    /// unless exactly one member has that name and is a string. Fails with `NoMemory` if memory
+    /// runs out.
     ///
     /// ```
     /// use json_doc::read_document;

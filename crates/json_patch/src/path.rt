@@ -37,8 +37,8 @@ pub fn pointer_node(alloc: Global, token: &str, here: View<'_>) -> Result<Pointe
 
 /// Returns the path from `root` that the tokens are, and the value at its end.
 ///
-/// Fails with `NotFound` if there is no such value, with `TypeUnmatched` if a token meets a value
-/// that is neither an array nor an object, and with `NoMemory` if memory runs out.
+/// Fails with `NotFound` if there is no such value. Fails with `TypeUnmatched` if a token meets a
+/// value that is neither an array nor an object, and with `NoMemory` if memory runs out.
 pub fn path_to<'a>(alloc: Global, tokens: &[String], root: View<'a>) -> Result<(Path, View<'a>)>
     ensures path { IfOk result (λ r. path_of_tokens (map string_bytes tokens.now) (seen root.entry)
         ≡ Ok (path_steps r.0)) }

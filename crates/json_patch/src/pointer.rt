@@ -170,8 +170,9 @@ impl Pointer {
     /// pointer references. Each token becomes an index if it meets an array, and a key if it meets
     /// an object.
     ///
-    /// Fails with `NotFound` if an array has no such element or an object no such member, with
-    /// `TypeUnmatched` if a token meets any other value, and with `NoMemory` if memory runs out.
+    /// Fails with `NotFound` if an array has no such element or an object no such member. Fails
+    /// with `TypeUnmatched` if a token meets any other value, and with `NoMemory` if memory runs
+    /// out.
     ///
     /// ```
     /// use json_doc::read_document;
