@@ -66,7 +66,7 @@ fn element_at<'a>(elements: &[View<'a>], i: usize) -> Option<View<'a>>
     }
 }
 
-// Returns how many last elements are the same.
+// Returns how many elements at the end of both are the same.
 fn common_back(alloc: Global, from: &[View<'_>], to: &[View<'_>]) -> Result<usize>
     ensures ok { IfOk result (λ n. n ≡ common_back (map seen from.now) (map seen to.now)) }
     ensures within { IfOk result (λ n. (n ≤ length from.now) × (n ≤ length to.now)) }
@@ -108,7 +108,7 @@ fn arrays_between<'a>(from: View<'a>, to: View<'a>) -> Option<(ArrayView<'a>, Ar
     Some((old, new))
 }
 
-// The operations so far, and the pointer to the values that the next operations lead to each other.
+// The operations so far, and the pointer to the value that the next operations change.
 #[derive(Drop)]
 struct PatchWriter {
     alloc: Global,
@@ -117,7 +117,7 @@ struct PatchWriter {
 }
 
 impl PatchWriter {
-    // Appends an operation that has the value.
+    // Appends an operation of this name at the pointer, with the member `value`.
     fn push_value(&mut self, name: &'static str, value: View<'_>) -> Result<()>
         ensures ok { OnOk result (AppendsTrees self.old self.new (operation_members name.now
             (text (string_bytes self.old.path))
@@ -132,7 +132,7 @@ impl PatchWriter {
         Ok(())
     }
 
-    // Appends `remove`.
+    // Appends the operation `remove` at the pointer.
     fn push_removal(&mut self) -> Result<()>
         ensures ok { OnOk result (AppendsOperations self.old self.new (remove [] ∷ [])) }
         ensures only { OnlyNoMemory result }
@@ -143,7 +143,7 @@ impl PatchWriter {
         Ok(())
     }
 
-    // Appends `replace`, unless the two values are the same.
+    // Appends the operation `replace` at the pointer, unless the two values are the same.
     fn push_whole(&mut self, from: View<'_>, to: View<'_>) -> Result<()>
         ensures ok { OnOk result (AppendsOperations self.old self.new
             (whole (seen from.entry) (seen to.entry))) }
@@ -195,7 +195,7 @@ impl PatchWriter {
         Ok(())
     }
 
-    // Appends `remove` for each of the elements, the first of which has the index.
+    // Appends `remove` at `index` for each of the elements: those after it move up.
     fn push_element_removals(&mut self, index: usize, elements: &[View<'_>]) -> Result<()>
         ensures ok { OnOk result (AppendsOperations self.old self.new
             (element_removals index (map seen elements.now))) }
@@ -314,14 +314,16 @@ fn between(alloc: Global, from: &Value, to: &Value) -> Result<Value>
     Ok(Value::from_vec(writer.operations))
 }
 
-/// Returns a JSON Patch (RFC 6902) that leads from one value to the other: `apply_patch` makes of
-/// the first a value that is the same as the second. It is the empty array exactly if the two are
-/// the same.
+/// Returns a JSON Patch (RFC 6902) that changes `from` into `to`: `apply_patch` with it makes of
+/// `from` a value that is the same as `to`, where the order of members does not count. The patch is
+/// the empty array exactly if `from` and `to` are the same.
 ///
-/// Members that both objects have, and elements at the same index, are led to each other. Others
-/// are added or removed. The last elements of two arrays that are the same are kept. Where a key
-/// repeats in one of two objects that differ, the object is replaced. There are at most as many
-/// operations as the two have values and names. Fails with `NoMemory` if memory runs out.
+/// Members that both objects have, and elements at the same index, are compared level by level;
+/// other members and elements are removed or added. Elements at the end of both arrays that are the
+/// same stay. If a key repeats in one of two objects that differ, the whole object is replaced.
+///
+/// The patch has at most as many operations as the two values have values and names together,
+/// counted at all levels. Fails with `NoMemory` if memory runs out.
 ///
 /// ```
 /// use json_diff::diff;

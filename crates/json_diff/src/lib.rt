@@ -1,5 +1,5 @@
-//! The JSON Patch (RFC 6902) and the JSON Merge Patch (RFC 7396) that lead from one value to
-//! another.
+//! Differences of JSON values, as patches that change one value into another: a JSON Patch
+//! (RFC 6902) by [`diff`], or a JSON Merge Patch (RFC 7396) by [`merge_diff`].
 //!
 //! ```
 //! use json_diff::{diff, merge_diff};

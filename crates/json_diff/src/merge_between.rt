@@ -17,7 +17,8 @@ use json_patch::internal::single_member;
 use json_value::{Object, ObjectView, Pair, Text, Value, View};
 use std::alloc::Global;
 
-/// Returns whether no two members have the same key.
+/// Returns whether no two members of the object have the same key. Objects within it are not looked
+/// at.
 #[tactic(auto, using(crate::proofs::UniqueKeys::unique_if_single))]
 pub fn has_unique_keys(object: ObjectView<'_>) -> bool
     ensures { result ≡ has_unique_keys (list_pairs (members_seen object.entry)) }
@@ -229,13 +230,16 @@ fn between(alloc: Global, from: &Value, to: &Value) -> Result<Option<Value>>
     changed_member(alloc, Some(from.view()), to.view())
 }
 
-/// Returns a JSON Merge Patch (RFC 7396) that leads from one value to the other: `apply_merge`
-/// makes of the first a value that is the same as the second. Between two objects that are the
-/// same it is the empty object. Keys that are gone are removed, members that differ are changed,
-/// and an array that differs is replaced.
+/// Returns a JSON Merge Patch (RFC 7396) that changes `from` into `to`: `apply_merge` with it makes
+/// of `from` a value that is the same as `to`, where the order of members does not count. Between
+/// two objects that are the same it is the empty object.
 ///
-/// Returns `None` where `to` has a null member that `from` has not, and where a key repeats in one
-/// of two objects that differ. Fails with `NoMemory` if memory runs out.
+/// Keys that `to` lacks are removed, members that differ are changed level by level, and an array
+/// that differs is replaced as a whole.
+///
+/// Returns `None` if an object that has to change has a key that repeats, in `from` or in `to`.
+/// Returns `None` too if a member has to become null, which no merge patch can do. Objects within
+/// arrays do not count. Fails with `NoMemory` if memory runs out.
 ///
 /// ```
 /// use json_diff::merge_diff;

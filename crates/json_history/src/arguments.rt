@@ -80,10 +80,12 @@ fn read_call_argument(alloc: Global, word: &str) -> Result<Vec<Call>>
     }
 }
 
-/// Returns the calls that the words ask for. There is one word: the JSON text of an array of edits,
-/// of `["undo"]` and of `["redo"]`.
+/// Reads the calls that the arguments of the command line ask for. There must be one argument: the
+/// JSON text of an array whose elements are edits, `["undo"]` or `["redo"]`. An edit is written as
+/// in `["push",[],1]`: its kind, its path and its operands.
 ///
-/// Fails with `BadWords` for all other words, and with `NoMemory` where memory runs out.
+/// Fails with `BadWords` if the arguments have another form, and with `NoMemory` if memory runs
+/// out. There are always fewer than 2^32 calls, as [`make_calls`] needs.
 pub fn requested_calls(alloc: Global, arguments: &Words) -> Result<Vec<Call>>
     ensures ok { IfOk result (λ cs. AsksForCalls arguments.now (map call_of cs.items)) }
     ensures err { IfErr result (λ e. (e ≡ no_memory)

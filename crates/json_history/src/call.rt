@@ -1,7 +1,7 @@
 // A call of a history.
 use json_value::Edit;
 
-/// A call of a history.
+/// A call of a [`History`], as [`make_calls`] makes it.
 ///
 /// ```
 /// use json_data::from_str;
@@ -15,10 +15,10 @@ use json_value::Edit;
 /// ```
 #[derive(Drop)]
 pub enum Call {
-    /// Applies the edit.
+    /// Applies the edit, after which nothing can be redone.
     Edit(Edit),
-    /// Undoes the latest edit that is not undone, if there is one.
+    /// Undoes the latest edit that is not undone. Changes nothing if there is none.
     Undo,
-    /// Redoes the edit that was undone last, if there is one.
+    /// Redoes the edit that was undone last. Changes nothing if there is none.
     Redo,
 }

@@ -45,11 +45,13 @@ fn error_at_call(error: Error, number: u32) -> Error
     }
 }
 
-/// Makes the calls in turn, up to the first one that fails.
+/// Makes the calls on `history` in turn, up to the first one that fails. There must be fewer than
+/// 2^32 calls. An undo or a redo that finds nothing to undo or redo does not fail.
 ///
-/// Fails with `NotFound` or `TypeUnmatched` at the first edit that does not apply, with its number
-/// among all calls, and with `NoMemory` where memory runs out. The calls before the one that fails
-/// stay made. Asks its caller for fewer than 2^32 calls.
+/// Fails with `NotFound` or `TypeUnmatched` at the first edit that does not apply. The error's
+/// place is `Place::Edit` with the index of that edit in `calls`, counted from 0. Fails with
+/// `NoMemory`, without a place, if memory runs out. After an error the calls before the failed one
+/// stay made, and the others are not made.
 pub fn make_calls(alloc: Global, history: &mut History, calls: Vec<Call>) -> Result<()>
     requires few { length calls.items < 2 ^ 32 }
     ensures ok { OnOk result

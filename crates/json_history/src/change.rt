@@ -6,7 +6,8 @@ ghost use Rattle.json_history.specs.ChangeTrees.{change_path};
 use crate::taken::Taken;
 use json_value::{Path, Value};
 
-/// What an edit changed of a value, by which the edit is undone.
+/// What an edit changed in a value: all that is needed to undo the edit. Each `path` begins at the
+/// root of the value.
 ///
 /// ```
 /// use json_data::from_str;
@@ -20,22 +21,25 @@ use json_value::{Path, Value};
 /// ```
 #[derive(Drop)]
 pub enum Change {
-    /// Undone by putting the old value at the path.
+    /// The edit replaced the value `old` at `path`. It is undone by putting `old` there.
     Put {
         path: Path,
         old: Value,
     },
-    /// Undone by removing the last member or element of the object or array at the path.
+    /// The edit appended a member to the object, or an element to the array, at `path`. It is
+    /// undone by removing the last one.
     DropLast {
         path: Path,
     },
-    /// Undone by inserting the old element into the array at the path, at the index.
+    /// The edit removed the element `old` at `index`, counted from 0, from the array at `path`. It
+    /// is undone by inserting it there.
     PutBack {
         path: Path,
         index: usize,
         old: Value,
     },
-    /// Undone by inserting the members into the object at the path, each at its index.
+    /// The edit removed the members `pairs` from the object at `path`. It is undone by inserting
+    /// each at the index that it had.
     PutPairs {
         path: Path,
         pairs: Taken,
@@ -43,7 +47,7 @@ pub enum Change {
 }
 
 impl Change {
-    /// Returns the path to what changed.
+    /// Returns the `path` of this change, whatever its variant.
     pub fn path(&self) -> &Path
         ensures { path_steps result.now ≡ change_path self.now }
     {

@@ -29,13 +29,22 @@ fn compact_style() -> Style<'static>
     }
 }
 
-/// Reads the JSON text of a source, makes the calls of a history of its value in turn, and writes
-/// the compact text of the current value to the sink, flushed.
+/// Reads the JSON text that `source` has left, and makes `calls` in turn on a new history of its
+/// value. Then writes the compact text of the current value to `sink`, and flushes it. There must
+/// be fewer than 2^32 calls.
 ///
-/// Fails with each error of the reader at its place in the input; with `NotFound` or
-/// `TypeUnmatched` at the first edit that does not apply, with its number among all calls; with
-/// `Io` where the source or the sink failed; and with `NoMemory` where memory runs out. Nothing is
-/// written until all calls are made. Asks its caller for fewer than 2^32 calls.
+/// Fails with:
+///
+/// - The error of the input, at its place there, if the input is not a JSON text of at most 254
+///   levels.
+/// - `TooLarge` if the input has more than 4,294,967,295 bytes.
+/// - `NotFound` or `TypeUnmatched` at the first edit that does not apply. The place is
+///   `Place::Edit` with its index in `calls`, counted from 0.
+/// - `Io` at `Reading` if `source` fails, and at `Writing` if `sink` fails.
+/// - `NoMemory` if memory runs out.
+///
+/// Nothing is written until all calls are made. If writing fails or memory runs out, `sink` may
+/// have got a prefix of the text.
 pub fn replay<S: Source, K: Sink>(
     alloc: Global,
     source: &mut S,

@@ -21,9 +21,10 @@ use std::alloc::Global;
 
 /// A value whose edits can be undone and redone.
 ///
-/// It keeps the current value, for each edit the change that undoes it, and for each undone edit an
-/// edit that redoes it. What a change keeps shares the packed parts of the value, and is otherwise
-/// a copy of what the edit replaces or removes.
+/// It holds the current value; for each edit that can be undone, the [`Change`] that undoes it; and
+/// for each undone edit, an edit that redoes it. A change holds what its edit replaced or removed.
+/// What is still part of the document that the value was read from is shared with it; all else is
+/// copied.
 ///
 /// ```
 /// use json_data::from_str;
@@ -48,7 +49,8 @@ pub struct History {
 impl History {
     ghost use Rattle.json_history.specs.LogOfHistory.{log_of, history_value, changes_in, redos_in};
 
-    /// Creates a history of the value, with nothing to undo or redo. Takes no memory.
+    /// Creates a history whose current value is `value`, with nothing to undo or redo. Allocates no
+    /// memory.
     pub fn new(alloc: Global, value: Value) -> History
         ensures log { log_of result ≡ new_log (tree_of value) }
         ensures history { history_of (log_of result) ≡ new_history (tree_of value) }
@@ -69,7 +71,8 @@ impl History {
         &self.value
     }
 
-    /// Returns the changes that undo the edits, the oldest first.
+    /// Returns the changes that undo the edits, one for each edit that can be undone, from the
+    /// oldest to the latest.
     pub fn changes(&self) -> &[Change]
         ensures log { changes_of result.now ≡ (log_of self.now).changes }
         ensures list { result.now ≡ changes_in self.now }
@@ -91,10 +94,13 @@ impl History {
         self.redos.len()
     }
 
-    /// Applies the edit, after which nothing can be redone.
+    /// Applies `edit` to the current value. Nothing can be redone afterwards: edits that were
+    /// undone are dropped.
     ///
-    /// Fails as `Value::apply` does: with `NotFound` or `TypeUnmatched` where the edit does not
-    /// apply, and with `NoMemory` where memory runs out. After an error nothing has changed.
+    /// Fails with `NotFound` if a key or an index that the edit needs is missing. Fails with
+    /// `TypeUnmatched` if the edit needs an object or an array and meets another value. Fails with
+    /// `NoMemory` if memory runs out. After an error the value, the edits to undo and those to redo
+    /// are the same as before the call.
     pub fn apply(&mut self, alloc: Global, edit: Edit) -> Result<()>
         ensures ok { OnOk result
             (log_edit (log_of self.old) (edit_of edit) ≡ Ok (log_of self.new)) }
@@ -121,9 +127,11 @@ impl History {
         )
     }
 
-    /// Undoes the latest edit that is not undone. Returns `false` if there is none.
+    /// Undoes the latest edit that is not undone, and returns `true`. Returns `false` if there is
+    /// none.
     ///
-    /// Fails with `NoMemory` where memory runs out, and then nothing has changed.
+    /// Fails with `NoMemory` if memory runs out. After an error the value, the edits to undo and
+    /// those to redo are the same as before the call.
     pub fn undo(&mut self, alloc: Global) -> Result<bool>
         ensures ok { OnOk result (log_of self.new ≡ log_call (log_of self.old) undo) }
         ensures answer { IfOk result (λ b. b ≡ is_nonempty (log_of self.old).changes) }
@@ -143,9 +151,10 @@ impl History {
         undo_last(alloc, &mut self.value, &mut self.changes, &mut self.redos)
     }
 
-    /// Redoes the edit that was undone last. Returns `false` if there is none.
+    /// Redoes the edit that was undone last, and returns `true`. Returns `false` if there is none.
     ///
-    /// Fails with `NoMemory` where memory runs out, and then nothing has changed.
+    /// Fails with `NoMemory` if memory runs out. After an error the value, the edits to undo and
+    /// those to redo are the same as before the call.
     pub fn redo(&mut self, alloc: Global) -> Result<bool>
         ensures ok { OnOk result (log_of self.new ≡ log_call (log_of self.old) redo) }
         ensures answer { IfOk result (λ b. b ≡ is_nonempty (log_of self.old).redos) }
@@ -165,9 +174,11 @@ impl History {
         redo_next(alloc, &mut self.value, &mut self.changes, &mut self.redos)
     }
 
-    /// Drops the oldest changes until at most `max` are left. Takes no memory.
+    /// Drops the changes of the oldest edits until at most `max` edits can be undone. The value and
+    /// the edits to redo are unchanged. Allocates no memory.
     ///
-    /// The limit holds for this call alone: a later `apply` adds a change again.
+    /// The limit holds for this call alone: a later [`History::apply`] or [`History::redo`] adds a
+    /// change again.
     pub fn limit(&mut self, max: usize)
         ensures log { log_of self.new ≡ limit_changes max (log_of self.old) }
         ensures history { history_of (log_of self.new)
@@ -179,7 +190,7 @@ impl History {
         keep_last(&mut self.changes, max);
     }
 
-    /// Drops the edits to redo. Takes no memory.
+    /// Drops all edits to redo. The value and the edits to undo are unchanged. Allocates no memory.
     pub fn clear_redo(&mut self)
         ensures log { log_of self.new ≡ without_redos (log_of self.old) }
         ensures history { history_of (log_of self.new)

@@ -1,67 +1,75 @@
-//! Laws of changes and histories: the contract of each function is a law.
+//! Laws of changes and histories: each is the contract of a function that does nothing. A history
+//! is the current value, the past, which are the values to undo to, and the future, those to redo
+//! to. A change log is its form in memory: changes to undo and edits to redo, in place of values.
 ghost use Rattle.json_history.specs.Laws.{ChangeFailsAsEdit, LogApplies, LogFollowsCall, LogRepresentsHistory, EmptyPastOrFuture, RedoAfterUndo, RedoRepeatsEdit, RedosAfterUndos, RunCallsIsAfterCalls, UndoAfterEdit, UndoAfterRedo, UndoInvertsEdit, UndosAfterEdits};
 
-/// The change of an edit undoes it.
+/// States that the change of an edit undoes the edit.
 pub fn undo_inverts_edit()
     ensures { UndoInvertsEdit }
 {}
 
-/// The edit to redo makes the same tree as the edit, and has the same change.
+/// States that the edit which redoes an undone edit makes the same value as that edit, and has the
+/// same change.
 pub fn redo_repeats_edit()
     ensures { RedoRepeatsEdit }
 {}
 
-/// An edit that does not apply has no change, for the same reason.
+/// States that an edit which does not apply has no change, for the same reason.
 pub fn change_fails_as_edit()
     ensures { ChangeFailsAsEdit }
 {}
 
-/// An edit and an undo give the same tree and past.
+/// States that an edit and an undo give the same value and past. The future is then what the edit
+/// made.
 pub fn undo_after_edit()
     ensures { UndoAfterEdit }
 {}
 
-/// An undo and a redo give the same history, where there is a past.
+/// States that an undo and a redo give the same history, if there is a past.
 pub fn redo_after_undo()
     ensures { RedoAfterUndo }
 {}
 
-/// A redo and an undo give the same history, where there is a future.
+/// States that a redo and an undo give the same history, if there is a future.
 pub fn undo_after_redo()
     ensures { UndoAfterRedo }
 {}
 
-/// As many redos as undos give the same history.
+/// States that several undos and as many redos give the same history, if the past has that many
+/// values.
 pub fn redos_after_undos()
     ensures { RedosAfterUndos }
 {}
 
-/// As many undos as edits give the same tree and past.
+/// States that edits which apply in turn, and as many undos, give the same value and past.
 pub fn undos_after_edits()
     ensures { UndosAfterEdits }
 {}
 
-/// Without a past an undo changes nothing, and without a future a redo.
+/// States that an undo without a past and a redo without a future change nothing.
 pub fn empty_past_or_future()
     ensures { EmptyPastOrFuture }
 {}
 
-/// After every list of calls the change log is valid and denotes the history.
+/// States that after any calls the change log is valid and represents the history after these
+/// calls.
 pub fn log_represents_history()
     ensures { LogRepresentsHistory }
 {}
 
-/// A valid change log denotes a history, and after a call the history after it.
+/// States that a valid change log represents a history. After any call it is valid and represents
+/// the history after the call.
 pub fn log_follows_call()
     ensures { LogFollowsCall }
 {}
 
-/// In a valid change log the latest change can be undone, and the next edit to redo applies.
+/// States that in a valid change log the latest change can be undone, and the next edit to redo
+/// applies.
 pub fn log_applies()
     ensures { LogApplies }
 {}
 
-/// Where each edit applies, running the calls gives the history after them.
+/// States that running calls whose edits all apply gives the history after these calls.
 pub fn run_calls_is_after_calls()
     ensures { RunCallsIsAfterCalls }
 {}

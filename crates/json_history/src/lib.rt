@@ -1,5 +1,9 @@
 //! Undo and redo of edits of a JSON value.
 //!
+//! [`History`] keeps a value with what undoes and redoes its edits. [`run_history`] is a whole
+//! command-line program: it reads a JSON text, makes the calls that its argument lists, and writes
+//! the result.
+//!
 //! ```
 //! use json_data::from_str;
 //! use json_history::History;

@@ -9,7 +9,8 @@ use json_io::Result;
 use json_value::{Pair, Text};
 use std::alloc::Global;
 
-/// The members that an edit removed from an object, in order, each with its index there from 0.
+/// The members that an edit removed from an object, in their order. Each has the index that it had
+/// in the object, counted from 0.
 ///
 /// ```
 /// use json_data::from_str;
@@ -29,15 +30,15 @@ pub struct Taken {
 }
 
 impl Taken {
-    /// Returns the number of members.
+    /// Returns the number of removed members.
     pub fn len(&self) -> usize
         ensures { result ≡ length (removed_members self.now) }
     {
         self.list.len()
     }
 
-    /// Returns the member with the number `i` from 0, and the index that it had in the object.
-    /// Asks its caller for an `i` below `len`.
+    /// Returns the index that the removed member number `i` had in the object, and the member
+    /// itself. Removed members are numbered from 0; `i` must be less than [`Taken::len`].
     pub fn at(&self, i: usize) -> (usize, &Pair)
         requires { i < length (removed_members self.now) }
         ensures { slice_get (removed_members self.now) i

@@ -21,7 +21,7 @@ use json_command::{Status, report};
 use json_io::{Result, Sink, Source, Words};
 use std::alloc::Global;
 
-// Reads, makes the calls that the words ask for, and writes.
+// Reads the input, makes the calls that the arguments ask for, and writes the value after them.
 fn apply_calls<S: Source, K: Sink>(
     alloc: Global,
     arguments: &Words,
@@ -41,21 +41,26 @@ fn apply_calls<S: Source, K: Sink>(
     replay(alloc, source, sink, calls)
 }
 
-/// Reads a JSON text, makes the calls that the words ask for in turn, and writes the compact text
-/// of the value after them.
+/// Runs the whole history program: reads a JSON text from `source`, makes the calls that
+/// `arguments` ask for in turn, and writes the compact text of the value after them to `sink`.
 ///
-/// There is one word: an array of edits, of `["undo"]` and of `["redo"]`. An undo or a redo with
-/// nothing to undo or redo changes nothing. Returns the exit status:
+/// There is one argument: the JSON text of an array whose elements are edits such as
+/// `["push",[],1]`, `["undo"]` or `["redo"]`. An undo or a redo that finds nothing to undo or redo
+/// changes nothing.
 ///
-/// - 0: done.
-/// - 1: the input is not a JSON text of at most 254 levels.
-/// - 2: the words have another form.
-/// - 3: an edit does not apply; its number counts all elements of the word.
-/// - 4: reading failed.
-/// - 5: writing failed.
+/// Returns the exit status:
+///
+/// - 0: all was done.
+/// - 1: the input is not a JSON text of at most 254 levels, or has more than 4,294,967,295 bytes.
+/// - 2: the arguments have another form.
+/// - 3: an edit does not apply. Its number in the error is the index in the argument, counted from
+///   0.
+/// - 4: a read failed.
+/// - 5: a write failed.
 /// - 6: memory ran out.
 ///
-/// On 1 to 6 the text of the error goes to `errs`.
+/// On 1 to 6 the text of the error goes to `errs`. On 1 to 4 nothing was written to `sink`; on 5
+/// and 6 it may have got a prefix of the text.
 pub fn run_history<S: Source, K: Sink, E: Sink>(
     alloc: Global,
     arguments: &Words,

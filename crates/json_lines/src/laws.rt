@@ -1,37 +1,40 @@
-//! Laws of lines, of their outcomes and of the words.
+//! Laws of lines, of their outcomes and of the arguments: each is the contract of a function that
+//! does nothing. The outcome of a line is its row, which is empty for a line that is skipped, or
+//! its error.
 ghost use Rattle.std.specs.Prelude.{List, ℕ};
 ghost use Rattle.json_lines.specs.Laws.{SomeOutcome, OneOutcome, OneLinesCommand, LinesInPieces, PieceByPiece};
 ghost use Rattle.json_lines.specs.Lines.{LineByLine};
 
-/// The lines of some bytes are the first line and then those of the bytes after it.
+/// States that the lines of some bytes are the first line and then the lines of the bytes after it.
 pub fn line_by_line()
     ensures { (bytes : List ℕ) → LineByLine bytes }
 {}
 
-/// Each line has an outcome.
+/// States that each line has an outcome.
 pub fn some_outcome()
     ensures { SomeOutcome }
 {}
 
-/// A line has at most one outcome: bytes are a text of one tree, or have one fault.
+/// States that a line has at most one outcome: its bytes are a JSON text of one value, or have one
+/// error.
 pub fn one_outcome()
     ensures { OneOutcome }
 {}
 
-/// Words ask for at most one command.
+/// States that arguments ask for at most one table of columns.
 pub fn one_table()
     ensures { OneLinesCommand }
 {}
 
-/// Where some bytes end with a newline, the lines of these and of others after them are those of
-/// the first and then those of the others.
+/// States that bytes which end with a newline, followed by others, have the lines of the first and
+/// then the lines of the others.
 pub fn lines_in_pieces()
     ensures { LinesInPieces }
 {}
 
-/// Bytes that are cut after a newline can be filtered apart: the rows and the errors of the whole
-/// are those of the first piece and then those of the second, with the lines of the second counted
-/// on.
+/// States that bytes cut after a newline can be run in two pieces. The rows and errors of the whole
+/// are those of the first piece and then those of the second, whose lines are numbered on from the
+/// first.
 pub fn piece_by_piece()
     ensures { PieceByPiece }
 {}

@@ -1,7 +1,7 @@
-//! JSON Lines: a filter that writes a row of cells for each line, and a reader of lines.
+//! JSON Lines: a program that writes a row of cells for each line, and a reader of lines.
 //!
-//! [`run_lines`] is a whole program over any source and any sinks. [`LineReader`] reads a source
-//! line by line within a fixed buffer.
+//! [`run_lines`] is the whole program over any source and any sinks. [`LineReader`] reads a source
+//! line by line within a buffer of fixed size.
 //!
 //! ```
 //! use json_lines::run_lines;

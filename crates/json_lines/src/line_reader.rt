@@ -15,7 +15,7 @@ const READ_AHEAD: usize = 65536;
 // The maximum number of bytes that one reader reads.
 const MAX_BYTES: u64 = 4294967295;
 
-/// A line of a source, without its newline.
+/// A line of a source, without its newline, as [`LineReader::next_line`] returns it.
 ///
 /// ```
 /// use json_lines::{Line, LineReader};
@@ -28,9 +28,9 @@ const MAX_BYTES: u64 = 4294967295;
 /// ```
 #[derive(Clone, Copy, Debug, PartialEq, Eq)]
 pub enum Line<'a> {
-    /// The bytes of a line that is within the reader's limit.
+    /// The bytes of a line that has at most as many bytes as the reader's limit.
     Whole(&'a [u8]),
-    /// A line that has more bytes than the reader's limit.
+    /// A line that has more bytes than the reader's limit. Its bytes are skipped.
     TooLong,
 }
 
@@ -42,10 +42,11 @@ enum LineRange {
     TooLong,
 }
 
-/// Reads a source line by line, with a buffer of its own.
+/// A reader of the lines of a source, with a buffer of its own.
 ///
-/// A line ends at a newline, the byte 0A. The last line needs none; an empty last line is no line.
-/// No byte is searched twice, and a byte is moved at most once.
+/// A line ends at a newline, the byte 0A (hexadecimal). The last line may lack it, and after a
+/// newline at the end of the source no line follows. Lines are read in place: a byte is moved
+/// within the buffer at most once.
 ///
 /// ```
 /// use json_lines::{Line, LineReader};
@@ -100,13 +101,11 @@ impl LineReader {
     ghost use Rattle.std.specs.Io.BufRead.{Rests};
     ghost use Rattle.std.specs.Borrow.{sem};
 
-    /// Returns a reader of lines of at most `limit` bytes each.
+    /// Creates a reader of lines of at most `limit` bytes each, the newline not counted. `limit`
+    /// must be at most 16,777,216. Longer lines are returned as [`Line::TooLong`].
     ///
-    /// Allocates `limit` + 65,536 bytes at once.
-    ///
-    /// # Errors
-    ///
-    /// Returns `NoMemory` if memory runs out, and no other error.
+    /// Allocates `limit` + 65,536 bytes at once, and nothing later. Fails with `NoMemory` if memory
+    /// runs out.
     pub fn new(alloc: Global, limit: usize) -> Result<LineReader>
         requires { limit ≤ 16777216 }
         ensures ok { IfOk result (λ r. line_reader_state r ≡ fresh_reader limit) }
@@ -186,15 +185,13 @@ impl LineReader {
         }
     }
 
-    /// Reads the next line of `source`. Returns `None` at its end.
+    /// Returns the next line of `source`, or `None` at its end. The bytes of the line are lent from
+    /// the reader's buffer, until the reader is used again. The reader may read beyond the line,
+    /// and keeps what it has read for the next call.
     ///
-    /// Allocates no memory. The line borrows the reader's buffer.
-    ///
-    /// # Errors
-    ///
-    /// Returns `Io` while reading if a read failed, and `TooLarge` once this reader has received
-    /// more than 4,294,967,295 bytes. After an error every later call returns the same error and
-    /// reads nothing.
+    /// Fails with `Io` at `Reading` if a read fails, and with `TooLarge` once this reader has
+    /// received more than 4,294,967,295 bytes. Errors are sticky: after an error every later call
+    /// returns the same error and reads nothing.
     pub fn next_line<S: Source>(&mut self, source: &mut S) -> Result<Option<Line<'_>>>
         ensures answer { (new : ReaderState) × NextLineCall (line_reader_state self.old) new
             (S.state source.old) (S.state source.new) result }

@@ -18,15 +18,17 @@ use std::alloc::Global;
 // A line of more bytes is too long.
 const MAX_LINE: usize = 1048576;
 
-/// Writes the row of a line.
+/// What writes the row of a line.
 pub(crate) trait RowWriter<K: Sink> {
     ghost use Rattle.json_lines.specs.LineHandling.{WritesRow, RowFails};
 
-    /// The outcomes that a line has.
+    /// The outcomes that a line has: its row or its error.
     ghost has_outcome: { Self → List ℕ → Outcome → Type 0 };
 
-    /// Writes the row of a good line, whose document is read in the room, or returns the error text
-    /// of a bad one.
+    /// Writes the row of a good line to `sink` and returns `None`, or returns the error text of a
+    /// bad line. The document of the line is read in `room`, whose memory serves line after line.
+    ///
+    /// Fails if writing fails or memory runs out. A line is at most 1,048,576 bytes long.
     fn write_row(
         &self,
         room: &mut DocumentRoom,
@@ -236,7 +238,10 @@ fn write_rows<R: RowWriter<K>, S: Source, K: Sink, E: Sink>(
     }
 }
 
-/// Reads and handles all lines with a reader of their own, and flushes the sink.
+/// Writes the rows of all lines of `source` to `sink`, which is then flushed, and reports the
+/// errors of bad lines to `errs`. `tally` counts the lines and must be new.
+///
+/// Fails if reading or writing rows fails or memory runs out; rows written so far stay.
 pub(crate) fn write_all_rows<R: RowWriter<K>, S: Source, K: Sink, E: Sink>(
     rows: &R,
     source: &mut S,

@@ -106,7 +106,7 @@ fn run_table<S: Source, K: Sink, E: Sink>(
     }
 }
 
-// Does all that `run_lines` does.
+// Does all that `run_lines` does, under one contract.
 fn run_arguments<S: Source, K: Sink, E: Sink>(
     alloc: Global,
     arguments: &Words,
@@ -127,23 +127,34 @@ fn run_arguments<S: Source, K: Sink, E: Sink>(
     }
 }
 
-/// Filters JSON Lines: writes a row for each good line of `source`, and the error of each bad line.
+/// Runs the whole JSON Lines program: writes a row to `sink` for each good line of `source`, and
+/// the error of each bad line to `errs`.
 ///
-/// `arguments` are a columns word and the option `--has=PATH`, which may precede or follow it. The
-/// columns word is a JSON array of 1 to 64 columns `[path, kind]`. A path is an array of keys and
-/// indexes; a kind is one of `"text"`, `"int"`, `"bool"` and `"json"`. A line where the path of
-/// `--has` leads to no value has no row.
+/// `arguments` has one argument for the columns and, before or after it, optionally `--has=PATH`.
+/// The columns are a JSON array of 1 to 64 elements `[path, kind]`. A path, also that of `--has`,
+/// is a JSON array of keys and indexes; a kind is `"text"`, `"int"`, `"bool"` or `"json"`. A line
+/// has no row if the path of `--has` leads to no value in it.
 ///
-/// A row is the cells of its columns, with tabs between them and a newline at the end. A cell is
-/// the compact text of the value at its path, or `-` where there is no value of its kind. Lines of
-/// whitespace alone are skipped. A line is bad if it has more than 1,048,576 bytes or is no JSON
-/// text (RFC 8259) of at most 254 levels in UTF-8; `errs` gets its number, counted from 1, and its
-/// error.
+/// A row is a cell for each column, with tabs between them and a newline at the end. The kind says
+/// which values a cell shows: strings, integers, booleans, or all for `"json"`. A cell is the
+/// compact text of the value at its path, or `-` if there is no value of that kind.
 ///
-/// Returns the status: 0 if all lines are good, 1 if some line is bad, 2 if `arguments` are others,
-/// 4 if reading failed, 5 if writing failed, 6 if memory ran out, and 7 if the source has more than
-/// 4,294,967,295 bytes. After 4, 5, 6 and 7 `sink` has a prefix of the rows, and `errs` a prefix of
-/// the errors and then the error of the run.
+/// Lines of whitespace alone are skipped. A line is bad if it has more than 1,048,576 bytes, or is
+/// not a JSON text (RFC 8259) of at most 254 levels in UTF-8. `errs` then gets the number of the
+/// line, counted from 1, and the error.
+///
+/// Returns the exit status:
+///
+/// - 0: all lines are good.
+/// - 1: some line is bad; the rows of the others were written.
+/// - 2: the arguments have another form; nothing was read, and nothing written to `sink`.
+/// - 4: a read failed.
+/// - 5: a write failed.
+/// - 6: memory ran out.
+/// - 7: `source` has more than 4,294,967,295 bytes.
+///
+/// On 4 to 7 `sink` has got a prefix of the rows. `errs` has got the errors of the first lines, and
+/// then the error of the run, as far as `errs` does not fail.
 ///
 /// ```
 /// use json_lines::run_lines;

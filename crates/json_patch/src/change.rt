@@ -103,7 +103,7 @@ fn insert_element(array: &mut Array, alloc: Global, token: &str, value: Value) -
     }
 }
 
-/// Returns the object if the value is one.
+/// Returns the object that `value` is, to be changed in place, or `None` if it is not an object.
 pub fn object_mut_in(value: &mut Value) -> Option<&mut Object>
     ensures* writes_back { sem 𝓛 (LendsIf value_row object_row value.entry result
         ObjectValue value.old) }
@@ -199,7 +199,11 @@ fn add_below(
     insert_along(root, alloc, path.steps(), last, value)
 }
 
-/// Adds the value where the tokens reference. An error leaves `root` unspecified.
+/// Adds `value` at the pointer of these tokens, as the operation `add` does
+/// (RFC 6902, section 4.1).
+///
+/// Fails with `NotFound` or `TypeUnmatched` if there is no place for it, and with `NoMemory` if
+/// memory runs out. An error leaves `root` unspecified.
 pub fn add_at(root: &mut Value, alloc: Global, tokens: &[String], value: Value) -> Result<()>
     ensures ok { OnOk result (Makes (added_at (map string_bytes tokens.now) (tree_of value)
         (tree_of root.old)) root.new) }
@@ -231,8 +235,12 @@ fn remove_below(root: &mut Value, alloc: Global, prefix: &[String], last: &str) 
     root.apply(alloc, &Edit::Remove { path, step })
 }
 
-/// Removes the value that the tokens reference; the root cannot be removed. An error leaves `root`
-/// unspecified.
+/// Removes the value that the tokens reference, as the operation `remove` does
+/// (RFC 6902, section 4.2). Of a key that repeats, all members are removed.
+///
+/// Fails with `NotFound` or `TypeUnmatched` if the tokens reference nothing. Fails with
+/// `TypeUnmatched` if there are no tokens: the root cannot be removed. Fails with `NoMemory` if
+/// memory runs out. An error leaves `root` unspecified.
 pub fn remove(root: &mut Value, alloc: Global, tokens: &[String]) -> Result<()>
     ensures ok { OnOk result (Makes (removed_at (map string_bytes tokens.now) (tree_of root.old))
         root.new) }
@@ -246,7 +254,10 @@ pub fn remove(root: &mut Value, alloc: Global, tokens: &[String]) -> Result<()>
     }
 }
 
-/// Replaces the value that the tokens reference. An error leaves `root` unspecified.
+/// Replaces the value that the tokens reference by `value` (RFC 6902, section 4.3).
+///
+/// Fails with `NotFound` or `TypeUnmatched` if they reference nothing, and with `NoMemory` if
+/// memory runs out. An error leaves `root` unspecified.
 pub fn replace(root: &mut Value, alloc: Global, tokens: &[String], value: Value) -> Result<()>
     ensures ok { OnOk result (Makes (replaced_at (map string_bytes tokens.now) (tree_of value)
         (tree_of root.old)) root.new) }
@@ -259,8 +270,8 @@ pub fn replace(root: &mut Value, alloc: Global, tokens: &[String], value: Value)
     put(root, alloc, path.steps(), value)
 }
 
-/// Returns a copy of the value that the tokens reference. Fails if they reference none, as the
-/// lookup does, or with `NoMemory` if memory runs out.
+/// Returns a copy of the value that the tokens reference in `root`. Fails with `NotFound` or
+/// `TypeUnmatched` if they reference nothing, and with `NoMemory` if memory runs out.
 pub fn copied(root: &Value, alloc: Global, tokens: &[String]) -> Result<Value>
     ensures ok { IfOk result (λ v. value_at_pointer (map string_bytes tokens.now) (tree_of root.now)
         ≡ Ok (tree_of v)) }

@@ -22,14 +22,16 @@ use json_value::{Value, View};
 use std::alloc::Global;
 use std::rc::Rc;
 
-/// What the arguments ask for.
+/// What the arguments of the program ask for: to apply a JSON Patch or a JSON Merge Patch, each
+/// held as the document of its text.
 #[derive(Drop)]
 pub enum Command {
     Patch(Rc<Doc>),
     Merge(Rc<Doc>),
 }
 
-/// Why a command failed: at its arguments, its input or its output, or at the patch.
+/// Why a command failed: `Patch` if the patch does not apply, and `Transfer` for all else, which is
+/// the arguments, the input, the output and memory.
 #[derive(Clone, Copy)]
 pub enum CommandError {
     Transfer(Error),
@@ -64,9 +66,11 @@ fn text_after<'a>(argument: &'a str, option: &str) -> Option<&'a str>
     argument.strip_prefix(option)
 }
 
-/// Reads what the arguments ask for: one argument, `--patch=TEXT` or `--merge=TEXT` with a JSON
-/// text of at most 254 levels. Fails with `BadWords` if they have another form, and with `NoMemory`
-/// if memory runs out.
+/// Reads what the arguments ask for. There must be one argument: `--patch=TEXT` or `--merge=TEXT`,
+/// where TEXT is a JSON text of at most 254 levels of arrays and objects.
+///
+/// Fails with `BadWords` if the arguments have another form, and with `NoMemory` if memory runs
+/// out.
 pub fn read_command(alloc: Global, arguments: &Words) -> TextResult<Command>
     ensures ok { IfOk result (λ c. AsksForPatch arguments.now (patch_request_of c)) }
     ensures err { IfErr result (λ e. (e ≡ no_memory)
@@ -113,10 +117,12 @@ fn default_style() -> Style<'static>
     }
 }
 
-/// Reads all of the source by the usual rules, changes its value as the command asks, and writes
-/// the compact text, flushed. Nothing is written before the whole input was read and the change
-/// applied. Fails at the first refusal of the input or of the change, and if the source or the sink
-/// fails.
+/// Reads the JSON text that `source` has left and patches its value as `command` asks. Writes the
+/// compact text of the result to `sink`, which is then flushed. A patch must have fewer than 2^32
+/// operations.
+///
+/// Fails if the input is not valid, the patch does not apply, `source` or `sink` fails, or memory
+/// runs out. Nothing is written before the whole input is read and patched.
 pub fn transfer<S: Source, K: Sink>(
     alloc: Global,
     source: &mut S,

@@ -12,7 +12,7 @@ use json_value::View;
 use std::alloc::{AllocError, AllocFailed, Global};
 use thiserror::Error;
 
-/// The kind of a [`PatchError`].
+/// The cause of a [`PatchError`].
 ///
 /// ```
 /// use json_patch::PatchCode;
@@ -22,20 +22,25 @@ use thiserror::Error;
 pub enum PatchCode {
     /// Memory ran out.
     NoMemory,
-    /// An object lacks a key, or an array an index, that an operation names.
+    /// A pointer in an operation leads to no value: an object lacks the key, or an array has no
+    /// such index.
     NotFound,
-    /// A token meets a value that is neither an object nor an array, or `remove` names the root.
+    /// A pointer in an operation leads into a value that is neither an object nor an array. A
+    /// `remove` of the root, the whole value, fails so too.
     TypeUnmatched,
-    /// The text is not a pointer.
+    /// The text given to `Pointer::parse` is not a JSON Pointer (RFC 6901, section 3). In a patch,
+    /// an operation with such a text is `BadPatch`.
     BadPointer,
-    /// The patch is not an array of operations.
+    /// The patch is not an array, or an element of it is not an operation
+    /// (RFC 6902, sections 3 and 4).
     BadPatch,
-    /// `test` found another value.
+    /// A `test` operation found a value that differs from its member `value`.
     TestFailed,
 }
 
 impl PatchCode {
-    /// Returns the number of the code.
+    /// Returns the number of this code. `NoMemory`, `NotFound` and `TypeUnmatched` have the numbers
+    /// of the `json_io` error codes with these names.
     pub fn number(self) -> u8
         ensures { result ≡ patch_code_number self }
     {
@@ -49,7 +54,7 @@ impl PatchCode {
         }
     }
 
-    /// Returns the name of the code.
+    /// Returns the name of this code as it is written here, such as `NotFound`.
     pub fn name(self) -> &'static str
         ensures { result.now ≡ patch_code_name self }
     {
@@ -64,7 +69,8 @@ impl PatchCode {
     }
 }
 
-/// The error of [`Pointer::parse`], [`apply_patch`] and [`apply_merge`].
+/// The error of [`Pointer::parse`], [`apply_patch`] and [`apply_merge`]: what failed, and in which
+/// operation of the patch.
 ///
 /// [`Pointer::parse`]: crate::Pointer::parse
 /// [`apply_patch`]: crate::apply_patch
@@ -79,16 +85,16 @@ impl PatchCode {
 #[derive(Clone, Copy, PartialEq, Eq, Debug, Error)]
 #[error("patch refused")]
 pub struct PatchError {
-    /// What failed.
+    /// The cause.
     pub code: PatchCode,
-    /// The index in the patch, counted from 0, of the operation that failed; `None` if the patch
-    /// is no array, if memory ran out, or if there is no patch.
+    /// The index in the patch, counted from 0, of the operation that failed. It is `None` if memory
+    /// ran out or the patch is not an array, and in errors of `Pointer::parse` and `apply_merge`.
     pub op: Option<u32>,
 }
 
 impl PatchError {
-    /// Returns what failed, for people: the name of the code, and the number of the operation if
-    /// one is named. `Display` says no more than that a patch was refused.
+    /// Returns a text for people: the name of the code and, if `op` names an operation, its index,
+    /// as in `NotFound in operation 0`. (`Display` writes only `patch refused`.)
     ///
     /// Fails with `NoMemory` if memory runs out.
     pub fn describe(&self, alloc: Global) -> TextResult<String>
@@ -105,10 +111,13 @@ impl PatchError {
         Ok(text)
     }
 
-    /// Returns the same of a patch that failed with this error, and the member `path` of the
-    /// operation that is named.
+    /// Returns the text of [`PatchError::describe`], followed by the member `path` of the operation
+    /// that `op` names, as in `NotFound in operation 0 at /a/0`. `patch` is the patch whose
+    /// application failed with this error.
     ///
-    /// Fails with `NoMemory` if memory runs out.
+    /// Leaves `path` out if `op` is `None` or `patch` has no such operation. Leaves it out too
+    /// unless exactly one member has that name and is a string. Fails with `NoMemory` if memory
+    /// runs out.
     ///
     /// ```
     /// use json_doc::read_document;
@@ -137,7 +146,7 @@ impl PatchError {
     }
 }
 
-// Returns the member `path` of the operation that is named, if one is.
+// Returns the string member `path` of the operation at index `op` of the patch, if there is one.
 fn path_member<'a>(op: Option<u32>, patch: View<'a>) -> Option<&'a str>
     ensures { option_map (λ s. s.now) result ≡ path_named op (seen patch.entry) }
 {
@@ -150,7 +159,7 @@ fn path_member<'a>(op: Option<u32>, patch: View<'a>) -> Option<&'a str>
     }
 }
 
-// Returns the element of the index, where the patch is an array that has one.
+// Returns the element at index `i` if the patch is an array that has one.
 fn operation_at<'a>(patch: View<'a>, i: usize) -> Option<View<'a>>
     ensures { option_map seen result
         ≡ option_and_then (λ ts. slice_get ts i) (list_of (seen patch.entry)) }

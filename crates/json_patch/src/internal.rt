@@ -1,4 +1,4 @@
-//! Parts of patches and pointers, for the other crates of the library. No program calls it.
+//! What only the other crates of this library call. It is no part of the public interface.
 
 pub use crate::operation::single_member;
 pub use crate::pointer::push_escaped;

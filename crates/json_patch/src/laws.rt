@@ -1,127 +1,134 @@
-// Laws over the definitions alone: functions whose contract is the statement.
+//! Laws of pointers, patches and merge patches: each is the contract of a function that does
+//! nothing.
 ghost use Rattle.json_patch.specs.Laws.{PointerTextParses, ParsedTextIsPointerText, AddIsInsert, AddIsPush, RemoveIsRemove, ReplaceIsSet, CopyIsAdd, MoveIsRemoveAndAdd, MoveToItself, AddThenRemoveMember, AddThenRemoveElement, RemovesWhatExists, EmptyPatchKeeps, MergedTwice, MergedTwiceSame, OtherMembersStay, DecimalIsIndex, IndexIsNumeral, NumeralIsIndex, PatchAppliesOperations, FirstBadOperationIsNamed, AppliedInTurn, FirstTokenThenRest, TokensArePath, AddAtRoot};
 
-/// The text of tokens parses to these tokens.
+/// States that the text of tokens parses to the same tokens.
 pub fn pointer_text_parses()
     ensures { PointerTextParses }
 {}
 
-/// A text that parses to tokens is the text of these.
+/// States that a text which parses to some tokens is the text of these tokens.
 pub fn parsed_text_is_pointer_text()
     ensures { ParsedTextIsPointerText }
 {}
 
-/// The decimal digits of a number are an index.
+/// States that the decimal digits of a number below 2^64 are an index, which is that number.
 pub fn decimal_is_index()
     ensures { DecimalIsIndex }
 {}
 
-/// A token that is an index is a numeral of that index.
+/// States that a token which is an index is the decimal numeral of that index.
 pub fn index_is_numeral()
     ensures { IndexIsNumeral }
 {}
 
-/// A numeral without a leading 0 is an index.
+/// States that a decimal numeral is an index unless it begins with 0 and is not `0` itself.
 pub fn numeral_is_index()
     ensures { NumeralIsIndex }
 {}
 
-/// A pointer is followed token by token.
+/// States that a pointer is followed token by token, from the first to the last.
 pub fn first_token_then_rest()
     ensures { FirstTokenThenRest }
 {}
 
-/// Tokens that reference a value are a path to it.
+/// States that tokens which reference a value are a path to it, and that others are no path, for
+/// the same reason.
 pub fn tokens_are_path()
     ensures { TokensArePath }
 {}
 
-/// `add` at the root replaces the whole tree.
+/// States that `add` at the root replaces the whole value.
 pub fn add_at_root()
     ensures { AddAtRoot }
 {}
 
-/// `add` inserts into an object.
+/// States that `add` to an object is the edit that inserts a member.
 pub fn add_is_insert()
     ensures { AddIsInsert }
 {}
 
-/// `add` of `-` pushes onto an array.
+/// States that `add` to an array with the last token `-` is the edit that appends an element.
 pub fn add_is_push()
     ensures { AddIsPush }
 {}
 
-/// `remove` removes the member or element that the last token names.
+/// States that `remove` is the edit that removes the member or element which the last token names.
 pub fn remove_is_remove()
     ensures { RemoveIsRemove }
 {}
 
-/// `replace` sets a value that exists.
+/// States that `replace` of a value that exists is the edit that sets it.
 pub fn replace_is_set()
     ensures { ReplaceIsSet }
 {}
 
-/// `copy` adds the value at `from`.
+/// States that `copy` is `add` of the value at `from`.
 pub fn copy_is_add()
     ensures { CopyIsAdd }
 {}
 
-/// `move` removes the value at `from` and adds it at `path`.
+/// States that `move` is `remove` of the value at `from` and then `add` of it at `path`, if the two
+/// differ.
 pub fn move_is_remove_and_add()
     ensures { MoveIsRemoveAndAdd }
 {}
 
-/// `move` from a path to itself changes nothing.
+/// States that `move` of a value to its own pointer changes nothing.
 pub fn move_to_itself()
     ensures { MoveToItself }
 {}
 
-/// `remove` undoes `add` of a new member.
+/// States that `remove` undoes `add` of a member whose key is new.
 pub fn add_then_remove_member()
     ensures { AddThenRemoveMember }
 {}
 
-/// `remove` undoes `add` of an element.
+/// States that `remove` undoes `add` of an element at the same index.
 pub fn add_then_remove_element()
     ensures { AddThenRemoveElement }
 {}
 
-/// `remove` removes a value that exists, and else fails as following the pointer does.
+/// States that `remove` removes any value below the root that exists. For others it fails as
+/// following the pointer does.
 pub fn removes_what_exists()
     ensures { RemovesWhatExists }
 {}
 
-/// A patch whose elements are operations applies these in turn.
+/// States that a patch whose elements are operations applies these in turn.
 pub fn patch_applies_operations()
     ensures { PatchAppliesOperations }
 {}
 
-/// The first element that is not an operation is named.
+/// States that a patch with an element that is not an operation fails with the index of the first
+/// such element.
 pub fn first_bad_operation_is_named()
     ensures { FirstBadOperationIsNamed }
 {}
 
-/// Each operation applies to what those before it made.
+/// States that each operation is applied to what those before it made.
 pub fn applied_in_turn()
     ensures { AppliedInTurn }
 {}
 
-/// The empty object changes no object.
+/// States that the merge patch `{}` changes no object.
 pub fn empty_patch_keeps()
     ensures { EmptyPatchKeeps }
 {}
 
-/// Merging a patch without repeated keys twice is merging it once.
+/// States that merging a patch twice is merging it once, if no key repeats in an object of the
+/// patch.
 pub fn merged_twice()
     ensures { MergedTwice }
 {}
 
-/// Merging a patch twice gives the same as merging it once.
+/// States that merging any patch twice gives the same value as merging it once; only the order of
+/// members may differ.
 pub fn merged_twice_same()
     ensures { MergedTwiceSame }
 {}
 
-/// A key that is not in the patch keeps its values.
+/// States that a key which is not in the merge patch keeps its values, in their order.
 pub fn other_members_stay()
     ensures { OtherMembersStay }
 {}

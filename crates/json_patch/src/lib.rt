@@ -1,5 +1,8 @@
-//! JSON Pointer (RFC 6901), JSON Patch (RFC 6902) and JSON Merge Patch (RFC 7396) over values, and
-//! `run_patch`, all that a program of patches does.
+//! JSON Pointer (RFC 6901), JSON Patch (RFC 6902) and JSON Merge Patch (RFC 7396).
+//!
+//! [`Pointer`] finds a value within another. [`apply_patch`] and [`apply_merge`] change a value by
+//! a patch, which is itself a JSON value. [`run_patch`] is a whole command-line program: it reads a
+//! JSON text, patches it and writes the result.
 //!
 //! ```
 //! use json_doc::read_document;

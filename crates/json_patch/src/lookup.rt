@@ -12,10 +12,10 @@ ghost use Rattle.json_patch.specs.PointerTargets.{target_at_token, target_at_poi
 use json_io::{Error, ErrorCode, Place};
 use json_value::{ArrayView, View};
 
-/// Why a token references nothing.
+/// Why a reference token leads to no value.
 #[derive(Clone, Copy)]
 pub enum LookupError {
-    /// The key or the index is missing.
+    /// The object has no such key, or the array no such index.
     NotFound,
     /// The value is neither an object nor an array.
     TypeUnmatched,
@@ -58,7 +58,8 @@ fn parse_index(token: &str) -> Option<usize>
     }
 }
 
-/// Returns the index that the token is, if it is at most `max`.
+/// Returns the array index that `token` spells (RFC 6901, section 4). Returns `None` if it spells
+/// none, or one greater than `last`.
 pub fn index_at_most(last: usize, token: &str) -> Option<usize>
     ensures { MatchOption result ((i : ℕ) → index_of_token token.now ≡ Some i → last < i)
         (λ i. (index_of_token token.now ≡ Some i) × (i ≤ last)) }
@@ -94,8 +95,11 @@ fn find_element<'a>(token: &str, array: ArrayView<'a>) -> Result<View<'a>, Looku
     }
 }
 
-/// Returns the element, or the first member's value, that the token references. Fails with
-/// `NotFound` if there is none, and with `TypeUnmatched` at a scalar.
+/// Returns the value that `token` references in `here`: an element by its index, or the value of
+/// the first member with that key.
+///
+/// Fails with `NotFound` if there is none, and with `TypeUnmatched` if `here` is neither an array
+/// nor an object.
 pub fn find_child<'a>(token: &str, here: View<'a>) -> Result<View<'a>, LookupError>
     ensures tree { found_value result ≡ value_at_token token.now (seen here.entry) }
     ensures target { IfOk result (λ v. target_at_token token.now (seen here.entry)
@@ -110,8 +114,10 @@ pub fn find_child<'a>(token: &str, here: View<'a>) -> Result<View<'a>, LookupErr
     }
 }
 
-/// Returns the value that the tokens reference. Fails with `NotFound` if there is none, and with
-/// `TypeUnmatched` at a scalar.
+/// Returns the value that the tokens reference in `root` (RFC 6901, section 4).
+///
+/// Fails with `NotFound` if there is none, and with `TypeUnmatched` if a token meets a value that
+/// is neither an array nor an object.
 pub fn find_value<'a>(tokens: &[String], root: View<'a>) -> Result<View<'a>, LookupError>
     ensures tree { found_value result
         ≡ value_at_pointer (map string_bytes tokens.now) (seen root.entry) }

@@ -171,10 +171,15 @@ fn merge_in(value: &mut Value, alloc: Global, patch: View<'_>) -> TextResult<()>
     }
 }
 
-/// Applies a JSON Merge Patch (RFC 7396) to a value. A patch that is not an object replaces the
-/// value. An object merges its members: null removes all members of the key, and any other value is
-/// merged into the first value of the key, or inserted. Fails with `NoMemory` if memory runs out,
-/// and leaves the value as it was.
+/// Applies a JSON Merge Patch (RFC 7396) to `value`. A patch that is not an object replaces
+/// `value`. If the patch is an object, `value` becomes an empty object unless it is an object
+/// already, and each member of the patch is merged into it:
+///
+/// - null removes all members with that key.
+/// - Any other value is applied as a merge patch to the value of the first member with that key. If
+///   there is none, it is applied to null, and the result is appended as a member.
+///
+/// Fails with `NoMemory` if memory runs out; `value` is then unchanged.
 ///
 /// ```
 /// use json_doc::read_document;

@@ -19,7 +19,8 @@ use json_io::{Error, ErrorCode, Place, Result};
 use json_value::{ObjectView, Value, View};
 use std::alloc::Global;
 
-/// An operation (RFC 6902, section 4).
+/// An operation of a JSON Patch (RFC 6902, section 4). `path` is the pointer to what is changed or
+/// tested, and `from` the pointer to what is moved or copied.
 #[derive(Drop)]
 pub enum Operation {
     Add { path: Pointer, value: Value },
@@ -30,7 +31,8 @@ pub enum Operation {
     Test { path: Pointer, value: Value },
 }
 
-/// Returns the value of the key if exactly one member has it.
+/// Returns the value of the member named `key`. Returns `None` if there is no such member, or more
+/// than one.
 pub fn single_member<'a>(object: ObjectView<'a>, key: &str) -> Option<View<'a>>
     ensures tree { option_map seen result
         ≡ single_value key.now (list_pairs (members_seen object.entry)) }
@@ -60,7 +62,8 @@ fn single_text<'a>(object: ObjectView<'a>, key: &str) -> Option<&'a str>
     }
 }
 
-/// Returns the member `path` of an operation, if exactly one has that name and is a string.
+/// Returns the string member `path` of an operation. Returns `None` if `operation` is not an
+/// object, if none or several of its members are named `path`, or if that member is not a string.
 pub fn path_of_operation<'a>(operation: View<'a>) -> Option<&'a str>
     ensures { option_map (λ s. s.now) result ≡ path_text (seen operation.entry) }
 {
@@ -148,7 +151,7 @@ fn from_and_path(alloc: Global, object: ObjectView<'_>) -> Result<Option<(Pointe
     }
 }
 
-// Returns whether `tokens` begins with `prefix` and goes on.
+// Returns whether `tokens` begins with `prefix` and is longer.
 fn is_prefix(prefix: &[String], tokens: &[String]) -> bool
     ensures { result
         ≡ is_proper_prefix (map string_bytes prefix.now) (map string_bytes tokens.now) }
@@ -161,7 +164,7 @@ fn is_prefix(prefix: &[String], tokens: &[String]) -> bool
     prefix.len() < tokens.len()
 }
 
-/// Returns whether the tokens are equal.
+/// Returns whether both lists have the same tokens in the same order.
 pub fn are_tokens_same(first: &[String], second: &[String]) -> bool
     ensures { result ≡ tokens_eq (map string_bytes first.now) (map string_bytes second.now) }
 {
@@ -173,7 +176,7 @@ pub fn are_tokens_same(first: &[String], second: &[String]) -> bool
     first.len() == second.len()
 }
 
-// Returns the operation `move`, unless `path` is below `from`.
+// Reads the operation `move`. Returns `None` if `path` leads into the value at `from`.
 fn read_move(alloc: Global, object: ObjectView<'_>) -> Result<Option<Operation>>
     ensures ok { let ps = list_pairs (members_seen object.entry) in
         IfOk result (λ o. option_map model_operation o ≡ move_allowed (moved_from
@@ -192,7 +195,7 @@ fn read_move(alloc: Global, object: ObjectView<'_>) -> Result<Option<Operation>>
     }
 }
 
-// Returns the operation that `op` names.
+// Reads the operation whose member `op` is `name`.
 fn read_named(alloc: Global, name: &str, object: ObjectView<'_>) -> Result<Option<Operation>>
     ensures ok { let ps = list_pairs (members_seen object.entry) in
         IfOk result (λ o. option_map model_operation o ≡ operation_named name.now
@@ -226,8 +229,8 @@ fn read_named(alloc: Global, name: &str, object: ObjectView<'_>) -> Result<Optio
     }
 }
 
-/// Returns the operation that the value is, or `None` if it is not one. Fails with `NoMemory` if
-/// memory runs out.
+/// Reads an operation of a JSON Patch (RFC 6902, section 4). Returns `None` if the value is not
+/// one, and fails with `NoMemory` if memory runs out.
 pub fn read_operation(alloc: Global, view: View<'_>) -> Result<Option<Operation>>
     ensures ok { IfOk result (λ o. option_map model_operation o ≡ operation_of (seen view.entry)) }
     ensures only { OnlyNoMemory result }

@@ -245,13 +245,19 @@ fn apply_list(root: &mut Value, alloc: Global, list: ArrayView<'_>) -> Result<()
     apply_operations(root, alloc, operations.as_slice())
 }
 
-/// Applies a JSON Patch (RFC 6902) to a value. All operations are read first; then each is applied
-/// to what those before it made. An error leaves the value as it was.
+/// Applies a JSON Patch (RFC 6902) to `value`. First all operations of `patch` are read; then each
+/// is applied to what those before it made. `patch` must have fewer than 2^32 elements. After an
+/// error `value` is unchanged.
 ///
-/// Fails with `BadPatch` if the patch is not an array, or an element is not an operation; with
-/// `NotFound` or `TypeUnmatched` if a pointer of an operation references nothing; with `TestFailed`
-/// if `test` finds another value; and with `NoMemory` if memory runs out. All but the last name the
-/// operation, if there is one. The patch must have fewer than 4,294,967,296 elements.
+/// Fails with:
+///
+/// - `BadPatch` if `patch` is not an array, or an element of it is not an operation.
+/// - `NotFound` or `TypeUnmatched` if a pointer of an operation references nothing, or `remove` has
+///   the pointer to the root.
+/// - `TestFailed` if a `test` operation finds another value than its own.
+/// - `NoMemory` if memory runs out.
+///
+/// The error names the operation by its index, unless memory ran out or `patch` is not an array.
 ///
 /// ```
 /// use json_doc::read_document;

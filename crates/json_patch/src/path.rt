@@ -11,8 +11,11 @@ use json_io::{Error, Result};
 use json_value::{Path, PointerNode, Text, View};
 use std::alloc::Global;
 
-/// Returns the step that the token is. Fails as `find_child` does, and with `NoMemory` if memory
-/// runs out.
+/// Returns the step that `token` is from `here`: an index if `here` is an array, and a key if it is
+/// an object.
+///
+/// Fails with `NotFound` if `token` is no index of the array, with `TypeUnmatched` if `here` is any
+/// other value, and with `NoMemory` if memory runs out.
 pub fn pointer_node(alloc: Global, token: &str, here: View<'_>) -> Result<PointerNode>
     ensures ok { IfOk result (λ n. step_of_token token.now (seen here.entry) ≡ Ok (node_step n)) }
     ensures refused { FailsAs (value_at_token token.now (seen here.entry)) result }
@@ -32,8 +35,10 @@ pub fn pointer_node(alloc: Global, token: &str, here: View<'_>) -> Result<Pointe
     }
 }
 
-/// Returns the path that the tokens are, and the value there. Fails as `find_value` does, and with
-/// `NoMemory` if memory runs out.
+/// Returns the path from `root` that the tokens are, and the value at its end.
+///
+/// Fails with `NotFound` if there is no such value. Fails with `TypeUnmatched` if a token meets a
+/// value that is neither an array nor an object, and with `NoMemory` if memory runs out.
 pub fn path_to<'a>(alloc: Global, tokens: &[String], root: View<'a>) -> Result<(Path, View<'a>)>
     ensures path { IfOk result (λ r. path_of_tokens (map string_bytes tokens.now) (seen root.entry)
         ≡ Ok (path_steps r.0)) }

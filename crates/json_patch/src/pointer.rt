@@ -17,7 +17,8 @@ use json_io::Result as TextResult;
 use json_value::{Path, View};
 use std::alloc::Global;
 
-/// A JSON Pointer (RFC 6901): reference tokens, each a key or the decimal digits of an index.
+/// A JSON Pointer (RFC 6901): a list of reference tokens. Each token leads one level down, by the
+/// key of a member or by the decimal digits of an element's index.
 ///
 /// ```
 /// use json_doc::read_document;
@@ -43,7 +44,7 @@ fn bad_pointer() -> PatchError
     }
 }
 
-// Returns the token of a part between slashes.
+// Returns the token of a part between two slashes, unescaped.
 fn read_token(alloc: Global, part: &str) -> Result<String, PatchError>
     ensures ok { IfOk result (λ s. unescaped_after false part.now ≡ Some (string_bytes s)) }
     ensures refused { IfErr result (λ e. PointerFails (unescaped_after false part.now)
@@ -67,7 +68,7 @@ fn read_token(alloc: Global, part: &str) -> Result<String, PatchError>
     Ok(token)
 }
 
-// Returns the tokens of the parts between slashes.
+// Returns the tokens of the parts between the slashes, unescaped.
 fn read_tokens(alloc: Global, parts: &str) -> Result<Vec<String>, PatchError>
     ensures ok { IfOk result (λ v. unescaped_tokens (split_at_slashes parts.now)
         ≡ Some (map string_bytes v.items)) }
@@ -86,7 +87,7 @@ fn read_tokens(alloc: Global, parts: &str) -> Result<Vec<String>, PatchError>
     Ok(tokens)
 }
 
-// Appends the part of a token that has no tilde, escaped.
+// Appends a part of a token that has no `~`, with `~1` for each `/`.
 fn push_slashes(text: &mut String, part: &str) -> TextResult<()>
     requires { Lacks tilde part.now }
     ensures ok { OnOk result (string_bytes text.new
@@ -105,8 +106,8 @@ fn push_slashes(text: &mut String, part: &str) -> TextResult<()>
     Ok(())
 }
 
-/// Appends a token, escaped. Fails with `NoMemory` if memory runs out; a front of the escaped token
-/// was appended then.
+/// Appends the token to `text`, with `~0` for each `~` and `~1` for each `/` (RFC 6901, section 3).
+/// Fails with `NoMemory` if memory runs out; a prefix of the escaped token was then appended.
 pub fn push_escaped(text: &mut String, token: &str) -> TextResult<()>
     ensures ok { OnOk result (string_bytes text.new
         ≡ string_bytes text.old ++ escaped_token token.now) }
@@ -124,9 +125,12 @@ pub fn push_escaped(text: &mut String, token: &str) -> TextResult<()>
 }
 
 impl Pointer {
-    /// Parses the text of a pointer (RFC 6901, section 3): nothing, or a `/` before each token. In
-    /// a token `~1` is `/` and `~0` is `~`. Fails with `BadPointer` if the text is not a pointer,
-    /// and with `NoMemory` if memory runs out.
+    /// Parses the text of a pointer (RFC 6901, section 3). The empty text is the pointer without
+    /// tokens, which references the root. Any other text has a `/` before each token. In a token
+    /// `~1` stands for `/` and `~0` for `~`.
+    ///
+    /// Fails with `BadPointer` if the text is not a pointer, and with `NoMemory` if memory runs
+    /// out.
     pub fn parse(alloc: Global, text: &str) -> Result<Pointer, PatchError>
         ensures ok { IfOk result (λ p. pointer_of text.now ≡ Some (pointer_tokens p)) }
         ensures refused { IfErr result (λ e. PointerFails (pointer_of text.now) e.code e.op) }
@@ -145,9 +149,11 @@ impl Pointer {
         }
     }
 
-    /// Returns the value that the pointer references (RFC 6901, section 4), or `None` if there is
-    /// none. A key references the first member of that name. The view is of the place itself, as that
-    /// of `View::pointer`.
+    /// Returns a view of the value that the pointer references in `root` (RFC 6901, section 4), or
+    /// `None` if there is none. If a key repeats, its first member is taken.
+    ///
+    /// Nothing is copied: the view is of the value within `root`, and is valid as long as `root`
+    /// is.
     pub fn find<'a>(&self, root: View<'a>) -> Option<View<'a>>
         ensures tree { option_map seen result
             ≡ result_ok (value_at_pointer (pointer_tokens self.now) (seen root.entry)) }
@@ -160,9 +166,13 @@ impl Pointer {
         }
     }
 
-    /// Returns the path that the pointer is from the root: a token is an index in an array, and a
-    /// key in an object. Fails with `NotFound` if an array has no such element or an object no such
-    /// member, with `TypeUnmatched` at any other value, and with `NoMemory` if memory runs out.
+    /// Returns the path, as edits of a value take it, that leads from `root` to the value that the
+    /// pointer references. Each token becomes an index if it meets an array, and a key if it meets
+    /// an object.
+    ///
+    /// Fails with `NotFound` if an array has no such element or an object no such member. Fails
+    /// with `TypeUnmatched` if a token meets any other value, and with `NoMemory` if memory runs
+    /// out.
     ///
     /// ```
     /// use json_doc::read_document;
@@ -182,8 +192,8 @@ impl Pointer {
         Ok(path)
     }
 
-    /// Returns the text of the pointer, from which `parse` reads the same tokens. Fails with
-    /// `NoMemory` if memory runs out.
+    /// Returns the text of the pointer (RFC 6901, section 3), from which [`Pointer::parse`] reads
+    /// the same tokens. Fails with `NoMemory` if memory runs out.
     pub fn to_text(&self, alloc: Global) -> TextResult<String>
         ensures text { IfOk result (λ s. string_bytes s ≡ pointer_text (pointer_tokens self.now)) }
         ensures parses { IfOk result (λ s. pointer_of (string_bytes s)

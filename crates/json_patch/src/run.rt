@@ -82,13 +82,25 @@ fn report_patch<E: Sink>(alloc: Global, errs: &mut E, error: PatchError) -> u8
     }
 }
 
-/// Patches the JSON text of a source and writes the compact text of the result to a sink: all that
-/// the program does. The arguments are one: `--patch=TEXT` for a JSON Patch (RFC 6902), or
-/// `--merge=TEXT` for a JSON Merge Patch (RFC 7396), with a JSON text of at most 254 levels.
+/// Runs the whole patch program: reads a JSON text from `source`, patches its value, and writes the
+/// compact text of the result to `sink`.
 ///
-/// Returns the status: 0 if all was done, 1 if the input is not valid, 2 if the arguments are not,
-/// 3 if the patch does not apply, 4 if a read failed, 5 if a write failed, and 6 if memory ran out.
-/// On 1 to 6 one line about the error goes to `errs`.
+/// `arguments` has one argument: `--patch=TEXT`, where TEXT is a JSON Patch (RFC 6902), or
+/// `--merge=TEXT`, where it is a JSON Merge Patch (RFC 7396). Neither the patch nor the input may
+/// have more than 254 levels of arrays and objects.
+///
+/// Returns the exit status:
+///
+/// - 0: all was done.
+/// - 1: the input is not valid, or has more than 4,294,967,295 bytes.
+/// - 2: the arguments have another form.
+/// - 3: the patch does not apply.
+/// - 4: a read failed.
+/// - 5: a write failed.
+/// - 6: memory ran out.
+///
+/// On 1 to 6 one line about the error goes to `errs`. On 1 to 4 nothing was written to `sink`; on 5
+/// and 6 it may have got a prefix of the text.
 ///
 /// ```
 /// use json_patch::run_patch;
