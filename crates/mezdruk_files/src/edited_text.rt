@@ -17,7 +17,7 @@ use json_layout::Style;
 use std::alloc::Global;
 use std::slice;
 
-/// The text of a document that was edited, and the status.
+/// What [`edit_document`] returns: the text of the edited document, and the status.
 ///
 /// ```
 /// use mezdruk_files::{NamedDocument, Job, Unchanged, edit_document};
@@ -30,9 +30,9 @@ use std::slice;
 /// ```
 #[derive(Drop)]
 pub struct EditedText {
-    /// The status, as [`print_documents`] returns it.
+    /// The status, which has the meaning that it has in [`print_documents`].
     pub status: u8,
-    /// The text; of no use if the status is not 0.
+    /// The edited text, if the status is 0. Else it has no meaning.
     pub text: Vec<u8>,
 }
 
@@ -80,10 +80,13 @@ fn with_end_of(bytes: &[u8], output: Vec<u8>) -> Vec<u8>
     text
 }
 
-/// Returns the text of the document after the change of the job, in the layout that the document
-/// has, whatever the style of the job: the indent is that of [`find_style`], members are sorted if
-/// the style of the job sorts them, and a newline is at the end if the document ends with one.
-/// Reports each error. The status is that of [`print_documents`].
+/// Applies the change of the job to a document, and returns the text of the changed value in the
+/// layout that the document has. The indent is the one that [`find_style`] finds, and a newline
+/// ends the text if one ends the document. Members are sorted if the style of the job sorts them;
+/// the rest of that style, and `raw`, are ignored.
+///
+/// Writes the report of each error to `errs`. The status of the result has the meaning that it has
+/// in [`print_documents`].
 ///
 /// ```
 /// use mezdruk_files::{NamedDocument, EditAll, Job, edit_document};
