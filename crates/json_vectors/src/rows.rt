@@ -1,7 +1,8 @@
 // Inputs and words with the results of `run`.
 
 /// Worked examples of `reshape::run`, one on each line, in the form that `json_command::rows`
-/// reads: the input, the status, the output, the error and the arguments, each with `|` after it.
+/// reads: the input, the status, the output, the error and the arguments, each with `|` after it. A
+/// line that begins with `#` is a comment.
 pub const ROWS: &str = r#"# texts, compact
 {"a": 1, "b": true, "c": null}|0|{"a":1,"b":true,"c":null}||
 [-0,1.0,1e400,12345678901234567890123,18446744073709551615]|0|[-0,1.0,1e400,12345678901234567890123,18446744073709551615]||

@@ -14,9 +14,9 @@ use crate::reading::{
 };
 use std::alloc::Global;
 
-/// Writes what the value or name at a node of the document is to `shown`. `node` is the number of
-/// the node. Returns false, and leaves `shown` unchanged, if the document is empty or has no such
-/// node. The document stays the same.
+/// Writes what is at `node`, the number of a value or a name in the document, to `shown`. Returns
+/// false, and leaves `shown` unchanged, if the document is empty or has no such node. The document
+/// stays the same.
 #[unsafe(no_mangle)]
 pub extern "C" fn mezdruk_read(
     alloc: Global,
@@ -109,9 +109,9 @@ pub extern "C" fn mezdruk_member(
     }
 }
 
-/// Copies the content of a string, or the literal of a number that is no integer of 64 bits, to the
-/// beginning of `bytes`, and writes its number of bytes to `length`. `node` is the number of the
-/// string's or number's node.
+/// Copies the content of a string or a name, or the literal of a number that is no integer of 64
+/// bits, to the beginning of `bytes`, and writes its number of bytes to `length`. `node` is the
+/// number of its node.
 ///
 /// If `bytes` is shorter than the text, nothing is copied, but `length` is written. Returns false,
 /// and leaves `bytes` and `length` unchanged, if there is no such text. The document stays the

@@ -77,12 +77,12 @@ fn edit(
     }
 }
 
-/// Reads a JSON text, applies the edits in order, and writes the text of the edited value to
-/// `output`. `edits` is a JSON text too: an array of edits. Returns 0 if all that is done.
+/// Reads a JSON text, applies the edits in order, writes the text of the edited value to `output`,
+/// and returns 0. `edits` is a JSON text too: an array of edits.
 ///
-/// Else it returns the status, writes the error to `fault`, and leaves `output` unchanged: 1 for a
-/// text that is not valid, 2 for options or edits that are not valid, 3 for an edit that does not
-/// apply, and 6 if memory ran out.
+/// On an error it writes the error to `fault`, leaves `output` unchanged, and returns the status: 1
+/// for a text that is not valid, 2 for options or edits that are not valid, 3 for an edit that does
+/// not apply, and 6 if memory ran out.
 #[unsafe(no_mangle)]
 pub extern "C" fn mezdruk_edit(
     alloc: Global,

@@ -72,13 +72,12 @@ fn merge_texts(
     }
 }
 
-/// Reads a JSON text, applies a JSON Patch (RFC 6902) to its value, and writes the text of the
-/// patched value to `output`. `operations` is the patch, a JSON text. Returns 0 if all that is
-/// done.
+/// Reads a JSON text, applies a JSON Patch (RFC 6902) to its value, writes the text of the patched
+/// value to `output`, and returns 0. `operations` is the patch, a JSON text.
 ///
-/// Else it returns the status, writes the error to `fault`, and leaves `output` unchanged: 1 for a
-/// text that is not valid, 2 for options that are not valid or a patch that is not a JSON text, 3
-/// for a patch that does not apply, and 6 if memory ran out.
+/// On an error it writes the error to `fault`, leaves `output` unchanged, and returns the status: 1
+/// for a text that is not valid, 2 for options that are not valid or a patch that is not a JSON
+/// text, 3 for a patch that does not apply, and 6 if memory ran out.
 #[unsafe(no_mangle)]
 pub extern "C" fn mezdruk_patch(
     alloc: Global,
@@ -98,13 +97,12 @@ pub extern "C" fn mezdruk_patch(
     give(patch_texts(alloc, text, operations, options), output, fault)
 }
 
-/// Reads a JSON text, applies a JSON Merge Patch (RFC 7396) to its value, and writes the text of
-/// the patched value to `output`. `patch` is the merge patch, a JSON text. Returns 0 if all that is
-/// done.
+/// Reads a JSON text, applies a JSON Merge Patch (RFC 7396) to its value, writes the text of the
+/// patched value to `output`, and returns 0. `patch` is the merge patch, a JSON text.
 ///
-/// Else it returns the status, writes the error to `fault`, and leaves `output` unchanged: 1 for a
-/// text that is not valid, 2 for options that are not valid or a patch that is not a JSON text, and
-/// 6 if memory ran out.
+/// On an error it writes the error to `fault`, leaves `output` unchanged, and returns the status: 1
+/// for a text that is not valid, 2 for options that are not valid or a patch that is not a JSON
+/// text, and 6 if memory ran out.
 #[unsafe(no_mangle)]
 pub extern "C" fn mezdruk_merge(
     alloc: Global,

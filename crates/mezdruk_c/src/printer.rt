@@ -112,11 +112,11 @@ fn print_by(
     }
 }
 
-/// Writes the text of the value at a node of the document to `output`, in the style of the options,
-/// and returns 0. `node` is the number of the node. The document stays the same.
+/// Writes the text of the value at `node`, the number of a node of the document, to `output`, in
+/// the style of the options, and returns 0. The document stays the same.
 ///
-/// Else it returns the status, writes the error to `fault`, and leaves `output` unchanged: 2 for
-/// options that are not valid, 3 if the document has no such node, and 6 if memory ran out.
+/// On an error it writes the error to `fault`, leaves `output` unchanged, and returns the status: 2
+/// for options that are not valid, 3 if the document has no such node, and 6 if memory ran out.
 #[unsafe(no_mangle)]
 pub extern "C" fn mezdruk_print(
     alloc: Global,
