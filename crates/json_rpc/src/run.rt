@@ -126,6 +126,7 @@ fn serve_source<S: Source, K: Sink, E: Sink>(
 /// run continues after it.
 ///
 /// Returns the status of the program:
+///
 /// - 0 if all lines were served,
 /// - 2 if there are any `arguments`: the program has none,
 /// - 4 if reading failed,

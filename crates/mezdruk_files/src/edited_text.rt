@@ -30,7 +30,8 @@ use std::slice;
 /// ```
 #[derive(Drop)]
 pub struct EditedText {
-    /// The status, which has the meaning that it has in [`print_documents`].
+    /// The status: 0 if the document was edited, 1 if it is not valid, 3 if the change does not
+    /// apply, 4 if it could not be read, and 6 if memory ran out.
     pub status: u8,
     /// The edited text, if the status is 0. Else it has no meaning.
     pub text: Vec<u8>,
@@ -85,8 +86,9 @@ fn with_end_of(bytes: &[u8], output: Vec<u8>) -> Vec<u8>
 /// ends the text if one ends the document. Members are sorted if the style of the job sorts them;
 /// the rest of that style, and `raw`, are ignored.
 ///
-/// Writes the report of each error to `errs`. The status of the result has the meaning that it has
-/// in [`print_documents`].
+/// If the document is not valid, could not be read, or the change does not apply to it, the error
+/// is reported to `errs`, and the status of the result says so. It is the one that
+/// [`print_documents`] returns.
 ///
 /// ```
 /// use mezdruk_files::{NamedDocument, EditAll, Job, edit_document};

@@ -60,6 +60,7 @@ fn read_edit_write<S: Source, K: Sink>(
 /// any number of levels, and keys that repeat.
 ///
 /// Fails with:
+///
 /// - the error of the grammar or the rules at its offset if the input is not valid, such as
 ///   `RecursionLimitExceeded` or `DuplicateKey`,
 /// - `TooLarge` if the input has more than 4,294,967,295 bytes,
@@ -100,10 +101,11 @@ pub fn reshape_with<S: Source, K: Sink>(
 
 /// Reads all of `source` as one JSON text, applies the edits in order, writes the text of the
 /// edited value in this style to `sink`, and flushes it. There must be fewer than 4,294,967,296
-/// edits.
+/// edits. The input may have at most 254 levels, and its keys may repeat.
 ///
-/// The input may have at most 254 levels, and its keys may repeat. [`reshape_with`] takes other
-/// rules, and lists the errors.
+/// Writes nothing unless the whole input is valid and every edit applies. Fails if the input is not
+/// valid, if an edit does not apply, if the source or the sink fails, and if memory runs out.
+/// [`reshape_with`] lists the errors, and reads by other rules.
 pub fn reshape<S: Source, K: Sink>(
     alloc: Global,
     source: &mut S,

@@ -51,6 +51,7 @@ fn carry_out<S: Source, K: Sink>(
 /// [`asked`] explains the arguments, `words`.
 ///
 /// The status is:
+///
 /// - 0 if all is done,
 /// - 1 if the input is not valid,
 /// - 2 if the arguments are not valid,

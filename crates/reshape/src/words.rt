@@ -44,6 +44,7 @@ fn read_edits_word(alloc: Global, word: Option<&str>) -> Result<Edits>
 }
 
 /// Reads what the arguments of `reshape` ask for. An argument that begins with `--` is an option:
+///
 /// - `--pretty` asks for an indent of two spaces,
 /// - `--tabs` for an indent of a tab,
 /// - `--indent=N` for an indent of N spaces, N being one digit from 0 to 8,
