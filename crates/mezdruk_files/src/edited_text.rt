@@ -30,8 +30,8 @@ use std::slice;
 /// ```
 #[derive(Drop)]
 pub struct EditedText {
-    /// The status: 0 if the document was edited, 1 if it is not valid, 3 if the change does not
-    /// apply, 4 if it could not be read, and 6 if memory ran out.
+    /// The status, as [`print_documents`] returns it: 0 if the document was edited, and else a
+    /// number that says why not.
     pub status: u8,
     /// The edited text, if the status is 0. Else it has no meaning.
     pub text: Vec<u8>,
