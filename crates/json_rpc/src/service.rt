@@ -128,9 +128,8 @@ impl Service {
     /// The reply is the error `ParseError` if the line has more than 1,048,576 bytes, or is not a
     /// JSON text (RFC 8259) in UTF-8 of at most 254 levels.
     ///
-    /// Fails only with `NoMemory`, if memory runs out; the document is unchanged then. For that, a
-    /// batch that asks for an edit is executed on a clone, which shares the parts that are not
-    /// edited.
+    /// Fails only with `NoMemory`, if memory runs out; the document is unchanged then. A line that
+    /// asks for no edit leaves the service unchanged.
     pub fn serve(&mut self, alloc: Global, line: Line<'_>) -> Result<Option<Value>>
         ensures ok { IfOk result (λ o. Serves (document_of self.old) line.entry
             (document_of self.new) (option_map tree_of o)) }
