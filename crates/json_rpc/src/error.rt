@@ -12,22 +12,24 @@ ghost use Rattle.json_rpc.specs.Responses.{error_code, read_line};
 /// ```
 #[derive(Clone, Copy, Debug, PartialEq, Eq, Drop)]
 pub enum RpcError {
-    /// The line is not a JSON text, or is too long or too deep.
+    /// The line is not a JSON text in UTF-8, has more than 1,048,576 bytes, or has more than 254
+    /// levels of arrays and objects.
     ParseError,
-    /// The value is not a valid request object, or is an empty array.
+    /// The value is not a valid request object (section 4), or is an empty array (section 6).
     InvalidRequest,
-    /// The method is none of those that are served.
+    /// The method is none of `get`, `set`, `insert`, `push` and `remove`.
     MethodNotFound,
-    /// The parameters are missing, are given by name, or have another form.
+    /// The parameters are missing, are given by name, or do not have the form that the method
+    /// requires.
     InvalidParams,
-    /// The path, or the step to remove, leads to a key or an index that is not there.
+    /// A key or an index of the path, or the one to remove, is not in the document.
     NotFound,
-    /// The path or the method needs an array or an object and meets another value.
+    /// The path or the method requires an array or an object, and the value there has another type.
     TypeUnmatched,
 }
 
 impl RpcError {
-    /// Returns the code, a negative number.
+    /// Returns the `code` of the error object, a negative number such as -32601.
     pub fn code(self) -> i64
         ensures { signed_decimal result ≡ error_code self }
     {
@@ -41,7 +43,7 @@ impl RpcError {
         }
     }
 
-    /// Returns the message, one short sentence without an end.
+    /// Returns the `message` of the error object, a short phrase without a full stop.
     pub fn message(self) -> &'static str
         ensures { result.now ≡ read_line self }
     {

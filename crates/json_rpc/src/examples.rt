@@ -1,4 +1,5 @@
-//! Examples of requests and replies, each the contract of a function that does nothing.
+//! Examples of requests and their replies. Each function does nothing; its contract states the
+//! example.
 ghost use Rattle.json_rpc.specs.Examples.{SetsTheRoot, NotifiesInVain, NotifiesWithEffect, ServesABatch, CannotRead, SaysNothing, EmptyBatch, InvalidBatch, NotifiesAll, MethodIsNoText, UnknownMethod, MissingParam, ParamsByName, GetsNothing, AnotherKind, FirstCounts};
 
 /// Shows that `set` at the root has the result null.
@@ -6,17 +7,17 @@ pub fn sets_the_root()
     ensures { SetsTheRoot }
 {}
 
-/// Shows a notification that does not apply.
+/// Shows that a notification whose edit does not apply has no reply.
 pub fn notifies_in_vain()
     ensures { NotifiesInVain }
 {}
 
-/// Shows a notification that applies.
+/// Shows that a notification whose edit applies has no reply either.
 pub fn notifies_with_effect()
     ensures { NotifiesWithEffect }
 {}
 
-/// Shows a request and a number, as a batch.
+/// Shows the responses to a batch of a request and a number.
 pub fn serves_a_batch()
     ensures { ServesABatch }
 {}
@@ -51,32 +52,32 @@ pub fn method_is_no_text()
     ensures { MethodIsNoText }
 {}
 
-/// Shows the response to a method that begins with the name of another.
+/// Shows the response to an unknown method whose name begins with the name of a known one.
 pub fn unknown_method()
     ensures { UnknownMethod }
 {}
 
-/// Shows the response to a request without a param.
+/// Shows the response to a request that has too few parameters.
 pub fn missing_param()
     ensures { MissingParam }
 {}
 
-/// Params by name, which no method takes.
+/// Shows the response to parameters by name, which no method accepts.
 pub fn params_by_name()
     ensures { ParamsByName }
 {}
 
-/// Shows the response to a path to a key that is not there.
+/// Shows the response to a `get` whose path leads to a key that is not there.
 pub fn missing_key()
     ensures { GetsNothing }
 {}
 
-/// Shows the response to an insertion into a number.
+/// Shows the response to an `insert` into a number.
 pub fn another_kind()
     ensures { AnotherKind }
 {}
 
-/// Shows that of members of one name, the first counts.
+/// Shows that the first of several members with the same name counts.
 pub fn first_counts()
     ensures { FirstCounts }
 {}

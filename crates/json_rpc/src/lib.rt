@@ -1,4 +1,5 @@
-//! JSON-RPC 2.0 over one document: requests on lines read and change it, and each reply is a line.
+//! A JSON-RPC 2.0 service over one document: each line of input is a request, or a batch of them,
+//! that reads or changes the document. Each reply is a line of output.
 //!
 //! ```
 //! use json_rpc::run_rpc;

@@ -59,7 +59,7 @@ fn serve_next_line<S: Source, W: Sink>(
     }
 }
 
-/// Serves all lines, and flushes the reply to each before the next one is read.
+/// Serves all lines of the source, and flushes the reply to each before it reads the next one.
 pub(crate) fn serve_lines<S: Source, W: Sink>(
     alloc: Global,
     service: &mut Service,

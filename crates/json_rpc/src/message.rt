@@ -11,10 +11,10 @@ use json_scan::ws_run;
 use json_value::Value;
 use std::alloc::Global;
 
-/// The maximum number of bytes of a line.
+/// The greatest number of bytes of a line that is read. A longer one is unreadable.
 pub(crate) const MAX_LINE_BYTES: usize = 1_048_576;
 
-/// What a line is.
+/// How a line was read.
 #[derive(Drop)]
 pub(crate) enum Message {
     /// Whitespace alone.
@@ -32,7 +32,7 @@ fn is_blank(bytes: &[u8]) -> bool
     ws_run(bytes, 0) == bytes.len()
 }
 
-// Reads a text that is not whitespace alone.
+// Reads a line that is not whitespace alone.
 fn read_message_text(alloc: Global, text: &str) -> Result<Message>
     requires size { length text.now ≤ max_line_bytes }
     requires full { ¬ (ws text.now) }
@@ -51,7 +51,7 @@ fn read_message_text(alloc: Global, text: &str) -> Result<Message>
     }
 }
 
-/// Reads the bytes of a line.
+/// Reads the bytes of a line. Fails only with `NoMemory`, if memory runs out.
 pub(crate) fn read_message(alloc: Global, bytes: &[u8]) -> Result<Message>
     ensures ok { IfOk result (λ m. IsMessage bytes.now (message_denoted m)) }
     ensures only { OnlyNoMemory result }

@@ -223,14 +223,15 @@ fn or_invalid(
     }
 }
 
-/// Returns whether a method of this name is an edit.
+/// Returns whether the method of this name is an edit.
 pub(crate) fn is_edit(method: &str) -> bool
     ensures { result ≡ is_edit method.now }
 {
     matches!(method, "set" | "insert" | "push" | "remove")
 }
 
-/// Reads what a request asks for, or the error that it gets.
+/// Reads the operation that a request asks for. The inner error is the one of the response:
+/// `MethodNotFound` or `InvalidParams`. Fails with `NoMemory` if memory runs out.
 pub(crate) fn read_requested_operation(
     alloc: Global,
     request: &Request<'_>,

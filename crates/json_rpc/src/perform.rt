@@ -57,7 +57,8 @@ fn find_at_path<'a>(root: View<'a>, path: &[PointerNode]) -> std::result::Result
     Ok(here)
 }
 
-/// Returns the response of `respond_to_get` to a request with this id; `None` without an id.
+/// Returns the response to a `get` of this path by a request with this id; `None` without an id.
+/// Fails with `NoMemory` if memory runs out.
 pub(crate) fn respond_to_get<R: Respond>(
     alloc: Global,
     document: &Value,
@@ -100,7 +101,8 @@ fn apply(
     }
 }
 
-/// Applies an edit and returns the response to a request with this id; `None` without an id.
+/// Applies an edit and returns the response to a request with this id; `None` without an id. Fails
+/// with `NoMemory` if memory runs out; the document is unchanged then.
 pub(crate) fn change_document<R: Respond>(
     alloc: Global,
     document: &mut Value,

@@ -46,7 +46,7 @@ fn is_valid(version: &str, params: Option<View<'_>>, id: Option<View<'_>>) -> bo
     version == "2.0" && are_params(params) && is_id(id)
 }
 
-/// Reads a request object; `None` if it is not valid.
+/// Reads a request object (JSON-RPC 2.0, section 4); `None` if it is not valid.
 pub(crate) fn read_request(view: View<'_>) -> Option<Request<'_>>
     ensures { option_map request_seen result ≡ request_of (seen view.entry) }
 {

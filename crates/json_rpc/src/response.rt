@@ -12,7 +12,8 @@ use json_io::Result;
 use json_value::{Object, Pair, Text, Value, View};
 use std::alloc::Global;
 
-/// What is made of a response (JSON-RPC 2.0, section 5): a value, or what is written.
+/// The form in which a response (JSON-RPC 2.0, section 5) is made: a value, or its parts for
+/// writing.
 pub(crate) trait Respond: Sized + Drop {
     ghost use Rattle.std.specs.Prelude.{◌≡◌, IfOk};
     ghost use Rattle.json_grammar.specs.Tree.{Tree};
@@ -86,7 +87,7 @@ impl Respond for Value {
     }
 }
 
-/// Returns the response that carries a result; `None` without an id.
+/// Returns the response with the result `outcome`; `None` without an id.
 pub(crate) fn result_response<R: Respond>(
     alloc: Global,
     outcome: Value,
@@ -106,7 +107,7 @@ pub(crate) fn result_response<R: Respond>(
     }
 }
 
-/// Returns the response that carries an error; `None` without an id.
+/// Returns the response with an error; `None` without an id.
 pub(crate) fn error_response<R: Respond>(
     alloc: Global,
     error: RpcError,

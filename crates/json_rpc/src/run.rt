@@ -112,21 +112,30 @@ fn serve_source<S: Source, K: Sink, E: Sink>(
     }
 }
 
-/// Serves JSON-RPC 2.0 over one document, which begins as null: reads `source` line by line, and
+/// Serves JSON-RPC 2.0 over one document, which is null at first: reads `source` line by line, and
 /// writes the reply to each line, if there is one, to `sink`.
 ///
 /// A line is a request or a batch of requests. The methods are `get [path]`, `set [path, value]`,
-/// `insert [path, key, value]`, `push [path, value]` and `remove [path, step]`, with parameters by
-/// position alone. A path is an array of keys and indexes. Each reply is compact and ends with a
-/// newline. That it is flushed before the next line is read is tested, and no clause.
+/// `insert [path, key, value]`, `push [path, value]` and `remove [path, step]`. Their parameters
+/// are given by position. A path is an array of keys and indexes, and a step is one of them. Each
+/// reply is compact and ends with a newline. It is flushed before the next line is read; tests show
+/// this, and no clause says it.
 ///
-/// A line of whitespace alone has no reply. A line of more than 1,048,576 bytes, or that is no JSON
-/// text (RFC 8259) of at most 254 levels in UTF-8, gets the error -32700, and the run goes on.
+/// A line of whitespace alone has no reply. The reply to a line of more than 1,048,576 bytes, or
+/// one that is not a JSON text (RFC 8259) in UTF-8 of at most 254 levels, is the error -32700. The
+/// run continues after it.
 ///
-/// Returns the status: 0 if all lines were served, 2 if there are any `arguments`, 4 if reading failed,
-/// 5 if writing failed, 6 if memory ran out, and 7 if the source has more than 4,294,967,295 bytes.
-/// If the status is not 0, `errs` gets the text of the error, and after 4, 5, 6 and 7 `sink` has a
-/// prefix of the replies.
+/// Returns the status of the program:
+///
+/// - 0 if all lines were served,
+/// - 2 if there are any `arguments`: the program has none,
+/// - 4 if reading failed,
+/// - 5 if writing failed,
+/// - 6 if memory ran out,
+/// - 7 if the source has more than 4,294,967,295 bytes.
+///
+/// If the status is not 0, the error is written to `errs`. After 4, 5, 6 and 7, `sink` has a prefix
+/// of the replies.
 ///
 /// ```
 /// use json_rpc::run_rpc;

@@ -146,7 +146,8 @@ fn serve_batch<R: Respond>(
     Ok(reply_of(replies))
 }
 
-/// Serves a value: a batch if it is an array, and else one request.
+/// Serves a value: as a batch if it is an array, and else as one request. Returns the reply; `None`
+/// if there is none. Fails with `NoMemory` if memory runs out; the document is unchanged then.
 pub(crate) fn serve_tree<R: Respond>(
     alloc: Global,
     document: &mut Value,

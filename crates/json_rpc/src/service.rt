@@ -17,10 +17,10 @@ use json_lines::Line;
 use json_value::Value;
 use std::alloc::Global;
 
-/// A document that JSON-RPC 2.0 requests read and edit. It begins as null.
+/// A document that JSON-RPC 2.0 requests read and edit. That of a new service is null.
 ///
-/// Values that are put into the document share the text of their line with it. That text stays in
-/// memory as long as a part of it is in the document.
+/// A value that a request puts into the document shares the text of the line that it came in. That
+/// text stays in memory as long as a part of it is in the document.
 ///
 /// ```
 /// use json_lines::Line;
@@ -83,7 +83,7 @@ fn read_line(alloc: Global, line: Line<'_>) -> Result<Message>
 impl Service {
     ghost use Rattle.json_rpc.specs.Denoted.{document_of};
 
-    /// Returns a service whose document is null. Allocates nothing.
+    /// Creates a service whose document is null. Allocates nothing.
     pub fn new() -> Service
         ensures { document_of result ≡ null }
     {
@@ -92,7 +92,7 @@ impl Service {
         }
     }
 
-    /// Returns a service whose document is this value. Allocates nothing.
+    /// Creates a service that reads and edits `document`. Allocates nothing.
     ///
     /// ```
     /// use json_data::from_str;
@@ -107,26 +107,29 @@ impl Service {
         Service { document }
     }
 
-    /// Returns the document.
+    /// Returns the document as it is now.
     pub fn document(&self) -> &Value
         ensures { tree_of result.now ≡ document_of self.now }
     {
         &self.document
     }
 
-    /// Returns the document, and ends the service.
+    /// Consumes the service and returns its document.
     pub fn into_document(self) -> Value
         ensures { tree_of result ≡ document_of self }
     {
         self.document
     }
 
-    /// Serves a line and returns the reply, if there is one. Whitespace alone, a notification and a
-    /// batch of notifications have none (JSON-RPC 2.0, sections 4.1 and 6).
+    /// Executes the request, or each request of the batch, on the line, and returns the reply.
+    /// Returns `None` for a line of whitespace alone, a notification, or a batch of notifications
+    /// (JSON-RPC 2.0, sections 4.1 and 6).
     ///
-    /// A line of more than 1,048,576 bytes, or that is no JSON text (RFC 8259) of at most 254
-    /// levels in UTF-8, has a reply with `ParseError`. Fails with `NoMemory` alone, and then the
-    /// document is as it was; after a line that asks for no edit it is the very value that it was.
+    /// The reply is the error `ParseError` if the line has more than 1,048,576 bytes, or is not a
+    /// JSON text (RFC 8259) in UTF-8 of at most 254 levels.
+    ///
+    /// Fails only with `NoMemory`, if memory runs out; the document is unchanged then. A line that
+    /// asks for no edit leaves the service unchanged.
     pub fn serve(&mut self, alloc: Global, line: Line<'_>) -> Result<Option<Value>>
         ensures ok { IfOk result (λ o. Serves (document_of self.old) line.entry
             (document_of self.new) (option_map tree_of o)) }
@@ -137,7 +140,8 @@ impl Service {
         self.reply_to(alloc, line)
     }
 
-    /// Serves a line as `serve` does, and returns the reply as what it is to be.
+    /// Executes the line as [`Service::serve`] does, and returns the reply as the type that the
+    /// caller chooses.
     pub(crate) fn reply_to<R: Respond>(
         &mut self,
         alloc: Global,

@@ -1,7 +1,8 @@
 // Inputs and words with the results of `run`.
 
-/// Worked examples of the top call, as `json_command::rows` reads them: the input, the status, the
-/// output, the error, and the arguments, each closed by `|`.
+/// Worked examples of `reshape::run`, one on each line, in the form that `json_command::rows`
+/// reads: the input, the status, the output, the error and the arguments, each with `|` after it. A
+/// line that begins with `#` is a comment.
 pub const ROWS: &str = r#"# texts, compact
 {"a": 1, "b": true, "c": null}|0|{"a":1,"b":true,"c":null}||
 [-0,1.0,1e400,12345678901234567890123,18446744073709551615]|0|[-0,1.0,1e400,12345678901234567890123,18446744073709551615]||
@@ -249,7 +250,7 @@ x|0|in 84 4779%0Aout 61 3681%0A||--make=2|
 1|2||BadWords|[]|--make=1|
 "#;
 
-/// The row of the largest made input, apart: where nothing is optimised, as under `rt try --test`,
-/// it takes half a minute.
+/// The worked example of the largest generated input. It is not one of [`ROWS`], since it takes
+/// half a minute where nothing is optimized.
 pub const LARGEST_MADE: &str =
     "x|0|in 4588890 254416828%0Aout 3388891 197916860%0A||--make=100000|";

@@ -8,10 +8,10 @@ use json_text::Result;
 use reshape::run;
 use std::alloc::Global;
 
-/// The greatest number of bytes that the source gives at once.
+/// The greatest number of bytes that one call of the source returns.
 const AT_ONCE: usize = 4_096;
 
-// How many of these rows `run` does not satisfy.
+// Returns how many of these examples `run` does not satisfy.
 fn differing(alloc: Global, rows: &str) -> Result<u32>
     ensures { OnlyNoMemory result }
 {
@@ -20,8 +20,8 @@ fn differing(alloc: Global, rows: &str) -> Result<u32>
     })
 }
 
-/// Runs the worked examples of `run`, and returns how many have another result: none, where memory
-/// suffices.
+/// Runs the worked examples of `reshape::run`, and returns how many have another result than the
+/// expected one. Fails with `NoMemory` if memory runs out.
 pub fn vectors(alloc: Global) -> Result<u32>
     ensures { OnlyNoMemory result }
 {

@@ -10,7 +10,7 @@ use json_io::Words;
 use json_value::Value;
 use std::alloc::Global;
 
-/// What the arguments of `mezdruk` ask for.
+/// What the arguments of `mezdruk` ask for: a command, its options, its operands and the files.
 ///
 /// ```
 /// use mezdruk_arguments::{Verb, read_arguments};
@@ -28,20 +28,23 @@ use std::alloc::Global;
 pub struct Arguments<'a> {
     /// The command.
     pub verb: Verb,
-    /// What the options ask for.
+    /// What the options of the command ask for.
     pub settings: Settings,
-    /// The file that has the edits or the patch, if an option names one.
+    /// The file that contains the operand, if an option such as `--edits=FILE` names one.
     pub source: Option<&'a str>,
-    /// The values of the operands.
+    /// The values of the operands, in order: those that [`Verb::operands`] lists, or none if
+    /// `source` names a file.
     pub operands: Vec<Value>,
-    /// The files, in order.
+    /// The files, in order. None if the command reads standard input.
     pub files: Vec<&'a str>,
 }
 
-/// Returns what the arguments ask for: a command, options and operands of it in any order, and
-/// files; after `--` no argument is an option. Fails with `Invalid` at the first argument with
-/// which no list of arguments is valid, with `Incomplete` if more arguments would make the list
-/// valid, and with `OutOfMemory` if memory runs out.
+/// Reads the arguments of `mezdruk`: the name of a command, and after it options, operands and
+/// files in any order. After `--` no argument is an option.
+///
+/// Fails with [`ArgumentsError::Invalid`] at the first argument that no further arguments could
+/// make valid, with [`ArgumentsError::Incomplete`] if an argument is missing at the end, and with
+/// [`ArgumentsError::OutOfMemory`] if memory runs out.
 pub fn read_arguments(alloc: Global, words: &Words) -> Result<Arguments<'_>, ArgumentsError>
     ensures ok { IfOk result (λ a. ParsesTo words.now a) }
     ensures err { IfErr result (λ e. RefusesCommandLine words.now e) }

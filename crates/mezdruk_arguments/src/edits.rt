@@ -29,7 +29,7 @@ fn first_text(operands: &[Value]) -> Option<&str>
     }
 }
 
-// The refusal of a path that is no pointer.
+// Returns the error of a path that is no JSON Pointer.
 fn no_pointer() -> OperandError {
     OperandError::Invalid(Problem::WrongForm {
         kind: OperandKind::Path,
@@ -37,7 +37,7 @@ fn no_pointer() -> OperandError {
     })
 }
 
-// Returns the operands with the path without steps in place of the first.
+// Returns the operands with an empty path in place of the first one.
 #[tactic(auto, using(crate::proofs::Spelled::later_trees))]
 fn replace_first(operands: Vec<Value>) -> Result<Vec<Value>>
     requires { 0 < length operands.items }
@@ -76,9 +76,12 @@ fn edits_value(alloc: Global, verb: Verb, operands: Vec<Value>) -> Result<Value>
     Ok(Value::from_vec(vec![in alloc; edit]?))
 }
 
-/// Returns the pointer to the place of an edit, if the first operand is one, and the operands with
-/// the path without steps in its place. Fails with `WrongForm` if the first operand is a string and
-/// no pointer, and with `OutOfMemory` if memory runs out.
+/// Splits the JSON Pointer (RFC 6901) off the operands of a command. If the first operand is a
+/// string, returns the pointer that it spells, and the operands with an empty path in its place.
+/// Else returns `None` and the operands unchanged.
+///
+/// Fails with [`Problem::WrongForm`] if the first operand is a string that is no pointer, and with
+/// [`OperandError::OutOfMemory`] if memory runs out.
 ///
 /// ```
 /// use mezdruk_arguments::{Verb, requested_edits, split_pointer};
@@ -112,9 +115,10 @@ pub fn split_pointer(
     }
 }
 
-/// Returns the edits that a command with these operands asks for: of `edit` those of its operand,
-/// and of `set`, `insert`, `push` and `remove` the one edit of that name. Fails with
-/// `TypeUnmatched` if they are no edits, and with `NoMemory` if memory runs out.
+/// Returns the edits that a command with these operands asks for. The operand of `edit` is an array
+/// of edits; `set`, `insert`, `push` and `remove` ask for the one edit of that name, whose parts
+/// are the operands. Fails with `TypeUnmatched` if the operands do not have that form, and with
+/// `NoMemory` if memory runs out.
 ///
 /// ```
 /// use mezdruk_arguments::{Verb, requested_edits};

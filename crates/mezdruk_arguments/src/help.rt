@@ -5,8 +5,8 @@ ghost use Rattle.mezdruk_arguments.specs.Help.{help_asked};
 use crate::verb::Verb;
 use json_io::Words;
 
-/// Returns the command whose help the arguments ask for: its name and then `--help` or `-h`, and
-/// nothing more. Returns `None` for all else.
+/// Returns the command whose help the arguments ask for. They do if they are the name of a command
+/// and one of `--help` and `-h`, and nothing more. Returns `None` for all other arguments.
 ///
 /// ```
 /// use mezdruk_arguments::{Verb, help_asked};
@@ -31,8 +31,8 @@ pub fn help_asked(words: &Words) -> Option<Verb>
 }
 
 impl Verb {
-    /// Returns what the help of the command says: its usage, what it does, its operands, and its
-    /// options beside those of every command.
+    /// Returns the text of the command's help: its usage, what it does, its operands, and its
+    /// options without those that every command has.
     pub fn help(self) -> &'static str {
         match self {
             Verb::Fmt => FMT,

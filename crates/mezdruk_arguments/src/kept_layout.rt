@@ -6,8 +6,8 @@ use crate::setting::Settings;
 use crate::verb::Verb;
 
 impl Settings {
-    /// Returns whether a command writes each file in the layout that the file has: it edits files in
-    /// place, and no option asks for a layout.
+    /// Returns whether the command writes each file in the layout that the file has. It does if it
+    /// changes files in place and no option asks for a layout, unless it is `fmt`.
     ///
     /// ```
     /// use mezdruk_arguments::{Verb, read_arguments};

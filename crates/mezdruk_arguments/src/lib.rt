@@ -1,5 +1,5 @@
-//! What the arguments of `mezdruk` ask for: a command, its options, its operands and files, or the
-//! first argument that makes them invalid.
+//! Reads the arguments of the program `mezdruk`: a command, its options, its operands and files, or
+//! the first argument that is not valid.
 //!
 //! ```
 //! use mezdruk_arguments::{ArgumentsError, Verb, read_arguments};

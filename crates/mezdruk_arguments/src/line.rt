@@ -16,7 +16,7 @@ use crate::verb::Verb;
 use json_value::Value;
 use std::alloc::Global;
 
-/// What one argument is, after those before it.
+/// What one argument is, given those before it.
 #[derive(Clone, Copy)]
 pub(crate) enum ArgumentRole {
     /// The name of a command.
@@ -29,7 +29,7 @@ pub(crate) enum ArgumentRole {
     WidthName,
     /// The number after `--indent`.
     Width,
-    /// An option that names the file of the operand.
+    /// An option that names the file that contains the operand.
     Source,
     /// An operand.
     Operand(OperandKind),
@@ -37,7 +37,7 @@ pub(crate) enum ArgumentRole {
     Path,
     /// A file.
     File,
-    /// No command, or no option of the command.
+    /// Not a command, or not an option of the command.
     Unknown,
 }
 
@@ -125,7 +125,7 @@ fn option_role(verb: Verb, word: &str) -> ArgumentRole
 }
 
 impl<'a> ArgumentLine<'a> {
-    /// No arguments.
+    /// Creates the state before the first argument.
     pub(crate) fn new(alloc: Global) -> ArgumentLine<'a>
         ensures { HoldsAsked result nothing_asked }
     {
@@ -336,7 +336,8 @@ impl<'a> ArgumentLine<'a> {
         }
     }
 
-    /// Adds an argument.
+    /// Reads one more argument. Fails if it is not valid after those before it, and if memory runs
+    /// out.
     pub(crate) fn take(&mut self, alloc: Global, word: &'a str) -> Result<(), OperandError>
         ensures ok { OnOk result ((s : ParsedArguments) → HoldsAsked self.old s
             → MayFollow s word.entry.now × HoldsAsked self.new (with_argument s word.entry.now)) }
@@ -363,7 +364,7 @@ impl<'a> ArgumentLine<'a> {
         }
     }
 
-    /// Returns what all the arguments ask for, or what is missing.
+    /// Returns what all the arguments ask for, or what is missing after the last one.
     pub(crate) fn finish(self) -> Result<Arguments<'a>, MissingArgument>
         ensures ok { IfOk result (λ a. (s : ParsedArguments) → HoldsAsked self.entry s → Finishes a s) }
         ensures err { OnErr result ((s : ParsedArguments) → HoldsAsked self.entry s → is_complete s ≡ false) }

@@ -21,7 +21,7 @@ use std::rc::Rc;
 /// The greatest number of bytes of an operand that is read.
 const MAX_BYTES: usize = 4_294_967_295;
 
-/// What an operand of a command is.
+/// The kinds of operands that commands have.
 ///
 /// ```
 /// use mezdruk_arguments::OperandKind;
@@ -29,7 +29,8 @@ const MAX_BYTES: usize = 4_294_967_295;
 /// ```
 #[derive(Clone, Copy, Debug, PartialEq, Eq)]
 pub enum OperandKind {
-    /// Where a value is: a JSON Pointer (RFC 6901), or a JSON array of steps.
+    /// Where in the document a value is: a JSON Pointer (RFC 6901), or a JSON array of steps, each
+    /// a key or an index.
     Path,
     /// A JSON array of edits.
     Edits,
@@ -37,9 +38,10 @@ pub enum OperandKind {
     Key,
     /// A JSON value.
     Value,
-    /// A string, which the argument is as it is.
+    /// A string without quotes and escapes: the argument itself is its content.
     Text,
-    /// A step: a JSON string or an index.
+    /// What to remove: a JSON string, which is a key, or an index, which is a number from 0 to
+    /// 4,294,967,295.
     Step,
     /// A JSON Patch (RFC 6902) or a JSON Merge Patch (RFC 7396).
     Patch,
@@ -48,7 +50,7 @@ pub enum OperandKind {
 }
 
 impl OperandKind {
-    /// Returns the name by which the help and errors call the operand.
+    /// Returns the name by which the help and the errors call the operand, such as `EDITS`.
     pub fn name(self) -> &'static str {
         match self {
             OperandKind::Path => "PATH",
@@ -73,7 +75,7 @@ fn root_value(alloc: Global, doc: &Rc<Doc>) -> Result<Value, OperandError>
     }
 }
 
-// Returns the refusal of a text with an error.
+// Returns the error of an operand that is no JSON text.
 fn text_refusal(kind: OperandKind, error: Error) -> OperandError
     ensures { (result ≡ OperandError.OutOfMemory) ⊎ (error.code ≢ NoMemory) }
 {
@@ -102,7 +104,7 @@ fn read_operand_text(alloc: Global, kind: OperandKind, text: &str) -> Result<Val
     }
 }
 
-// Whether an operand is taken as it is, and is no JSON text.
+// Returns whether the argument itself is the content of a string, and no JSON text.
 fn is_verbatim(kind: OperandKind, word: &str) -> bool
     ensures { result ≡ taken_verbatim kind word.now }
 {
@@ -152,7 +154,7 @@ fn is_path_form(alloc: Global, word: &str, value: &Value) -> Result<bool, Operan
     }
 }
 
-// Whether the value of a word has the form of the operand.
+// Returns whether the value of an argument has the form of the operand.
 fn has_form(
     alloc: Global,
     kind: OperandKind,
@@ -171,10 +173,14 @@ fn has_form(
     }
 }
 
-/// Returns the value that the text of an operand spells: a string of the text itself for a path
-/// that is empty or begins with `/`, for `Text` and for `File`, and else the value of the JSON text. Fails if
-/// such a path is no JSON Pointer, if another text is no JSON text by the usual rules or its value
-/// has not the form of the operand, and if memory runs out.
+/// Reads an operand of this kind from the argument `word`, and returns its value. If the kind is
+/// `Text` or `File`, or if it is `Path` and `word` is empty or begins with `/`, the value is the
+/// string `word` itself. Else `word` is read as a JSON text by the usual rules (at most 254 levels,
+/// keys may repeat).
+///
+/// Fails with [`Problem::NoText`] if it is not a JSON text, with [`Problem::WrongForm`] if the
+/// value does not have the form of the operand or the path is no JSON Pointer, and with
+/// [`OperandError::OutOfMemory`] if memory runs out.
 ///
 /// ```
 /// use mezdruk_arguments::{OperandKind, read_operand};

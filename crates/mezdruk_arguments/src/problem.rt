@@ -2,7 +2,7 @@
 use crate::operand::OperandKind;
 use json_io::Error;
 
-/// What is wrong with an argument.
+/// What is wrong with one argument.
 ///
 /// ```
 /// use mezdruk_arguments::{ArgumentsError, Problem, read_arguments};
@@ -16,36 +16,37 @@ use json_io::Error;
 /// ```
 #[derive(Clone, Copy, Debug, PartialEq, Eq)]
 pub enum Problem {
-    /// It is no command, or no option of the command.
+    /// It is not a command, or not an option of the command.
     Unknown,
-    /// An option of its kind was there.
+    /// It asks for what an earlier option asks for already, such as a second layout.
     Repeated,
-    /// Standard input cannot be changed in place.
+    /// It asks for standard input to be changed in place, which is not possible.
     StandardInput,
-    /// A stream is read by the usual rules, and options ask for others.
+    /// It asks for both `--stream` and other rules than the usual ones, by which a stream is read.
     StreamRules,
-    /// It names the file of an operand after an operand or a file, or says how a value is read
-    /// after the value.
+    /// It is an option that must come earlier: one that names the file of an operand comes before
+    /// the operands and files, and `--string` comes before the value.
     Late,
-    /// It follows `--indent` and is no number from 0 to 8.
+    /// It follows `--indent`, and is not a number from 0 to 8.
     NoWidth,
-    /// It is no JSON text.
+    /// It is an operand that is not a JSON text.
     NoText {
-        /// The operand.
+        /// The kind of the operand.
         kind: OperandKind,
-        /// The error of the text.
+        /// The error of the text, with its place in the argument.
         error: Error,
     },
-    /// Its value has not the form of the operand.
+    /// It is an operand whose value does not have the form of its kind.
     WrongForm {
-        /// The operand.
+        /// The kind of the operand.
         kind: OperandKind,
-        /// The number of the first element that is no edit or no step, from 0, if there is one.
+        /// The index of the first element that is no edit or no step, counted from 0, if the value
+        /// is an array of them.
         element: Option<usize>,
     },
 }
 
-/// Why an argument is not taken.
+/// Why an argument cannot be read.
 ///
 /// ```
 /// use mezdruk_arguments::{OperandKind, Problem, OperandError, read_operand};
@@ -57,7 +58,7 @@ pub enum Problem {
 pub enum OperandError {
     /// Memory ran out.
     OutOfMemory,
-    /// The argument is not valid where it is.
+    /// The argument is not valid after those before it.
     Invalid(Problem),
 }
 
@@ -81,7 +82,7 @@ pub enum MissingArgument {
     File,
 }
 
-/// Why arguments are refused.
+/// Why the arguments of `mezdruk` cannot be read.
 ///
 /// ```
 /// use mezdruk_arguments::{ArgumentsError, MissingArgument, OperandKind, read_arguments};
@@ -97,13 +98,13 @@ pub enum MissingArgument {
 pub enum ArgumentsError {
     /// Memory ran out.
     OutOfMemory,
-    /// The argument of this index is the first that makes the arguments invalid.
+    /// This argument is the first that is not valid after those before it.
     Invalid {
-        /// The index, from 0.
+        /// The index of the argument, counted from 0.
         index: usize,
         /// What is wrong with the argument.
         problem: Problem,
     },
-    /// No argument is wrong, and this is missing.
+    /// Each argument is valid, but another one must follow.
     Incomplete(MissingArgument),
 }

@@ -274,9 +274,9 @@ fn report_of(alloc: Global, words: &Words, text: &str) -> Result<String, AllocEr
     }
 }
 
-/// Returns the report of arguments that are refused: the program, the command, and what is wrong
-/// with the argument that the error names, or what is missing; and a newline. Fails if memory runs
-/// out.
+/// Returns the report of arguments that are not valid, one line or more with a newline at the end:
+/// the name of the program and of the command, what is wrong with the argument that `error` names,
+/// or what is missing. `words` are the arguments. Fails if memory runs out.
 ///
 /// ```
 /// use mezdruk_arguments::{arguments_report, read_arguments};
@@ -305,8 +305,9 @@ pub fn arguments_report(
     report_of(alloc, words, text.as_str())
 }
 
-/// Returns the report of a file in which an operand was looked for: the program, the command, the
-/// file and what is wrong with it; and a newline. Fails if memory runs out.
+/// Returns the report of a file that does not contain the operand that was looked for in it: the
+/// name of the program, of the command and of the file, and what is wrong with its content, with a
+/// newline at the end. `words` are the arguments. Fails if memory runs out.
 ///
 /// ```
 /// use mezdruk_arguments::{OperandKind, Problem, operand_file_report};

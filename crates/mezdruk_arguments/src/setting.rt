@@ -6,7 +6,7 @@ ghost use Rattle.json_command.specs.Options.{depth_in, width_in};
 use crate::operand::OperandKind;
 use json_command::option_number;
 
-/// How the texts of values are laid out.
+/// The layout of printed values that an option asks for.
 ///
 /// ```
 /// use mezdruk_arguments::RequestedLayout;
@@ -17,13 +17,13 @@ use json_command::option_number;
 pub enum RequestedLayout {
     /// Without whitespace.
     Compact,
-    /// Indented by this many spaces.
+    /// Each level indented by this many spaces, at most 8.
     Spaces(u8),
-    /// Indented by a tab.
+    /// Each level indented by a tab.
     Tab,
 }
 
-/// Which documents an input has.
+/// How an input contains several documents.
 ///
 /// ```
 /// use mezdruk_arguments::{RequestedInput, Setting};
@@ -32,9 +32,9 @@ pub enum RequestedLayout {
 /// ```
 #[derive(Clone, Copy, Debug, PartialEq, Eq)]
 pub enum RequestedInput {
-    /// One document in each line.
+    /// One document on each line.
     Lines,
-    /// Documents one after another.
+    /// Documents one after another, with or without whitespace between them.
     Stream,
 }
 
@@ -46,29 +46,29 @@ pub enum RequestedInput {
 /// ```
 #[derive(Clone, Copy, Debug, PartialEq, Eq)]
 pub enum Setting {
-    /// A layout.
-    RequestedLayout(RequestedLayout),
-    /// Members in the order of their keys.
+    /// This layout of printed values.
+    Layout(RequestedLayout),
+    /// Members printed in the order of their keys (`--sort-keys`).
     SortKeys,
-    /// Input in which the keys of each object differ.
+    /// An error for input in which a key of an object repeats (`--unique-keys`).
     UniqueKeys,
-    /// Input of at most this many levels.
+    /// An error for input of more than this many levels (`--depth=N`), at most 1,024.
     Depth(u32),
-    /// Strings by their content.
+    /// A string printed as its content, without quotes and escapes (`--raw`).
     Raw,
-    /// A value that is a string, as the argument is.
+    /// An operand `VALUE` that is a string with the argument as its content (`--string`).
     StringValue,
-    /// A merge patch in place of a patch.
+    /// A merge patch printed in place of a patch.
     MergePatch,
     /// A report of how many files were changed.
     Verbose,
-    /// The files changed in place.
+    /// Files changed in place (`--in-place`).
     InPlace,
-    /// Several documents in each input.
+    /// Input that contains several documents (`--lines` or `--stream`).
     Input(RequestedInput),
 }
 
-/// What the options of a command ask for, each at most once.
+/// What the options of a command ask for. Each can be asked for once.
 ///
 /// ```
 /// use mezdruk_arguments::{RequestedLayout, read_arguments};
@@ -85,17 +85,18 @@ pub enum Setting {
 /// ```
 #[derive(Clone, Copy, Debug, PartialEq, Eq)]
 pub struct Settings {
-    /// The layout, if one is asked for.
+    /// The layout of printed values, if an option asks for one.
     pub layout: Option<RequestedLayout>,
-    /// Whether members are sorted by their keys.
+    /// Whether members are printed in the order of their keys.
     pub sorted: bool,
-    /// Whether the keys of each object have to differ.
+    /// Whether the keys of each object of the input must differ.
     pub unique: bool,
-    /// The greatest number of levels, if one is asked for.
+    /// The greatest number of levels of the input, if an option asks for one.
     pub depth: Option<u32>,
-    /// Whether a string is printed by its content.
+    /// Whether a string is printed as its content, without quotes and escapes.
     pub raw: bool,
-    /// Whether the value of an edit is a string, as the argument is.
+    /// Whether the operand `VALUE` is a string with the argument as its content, and not a JSON
+    /// text.
     pub string_value: bool,
     /// Whether a merge patch is printed in place of a patch.
     pub merge_patch: bool,
@@ -103,11 +104,11 @@ pub struct Settings {
     pub verbose: bool,
     /// Whether files are changed in place.
     pub in_place: bool,
-    /// Which documents each input has, if that is asked for.
+    /// How each input contains several documents; `None` if it is one document.
     pub input: Option<RequestedInput>,
 }
 
-/// The number of spaces that one digit asks for, which is 8 at most.
+/// Returns the number of spaces that one digit asks for, at most 8.
 pub(crate) fn width_of(digits: &[u8]) -> Option<u8>
     ensures { result ≡ width_in digits.now }
 {
@@ -151,7 +152,7 @@ fn setting_with_value(word: &str) -> Option<Setting>
 }
 
 impl Setting {
-    /// Returns what an option asks for, or `None` if it is unknown.
+    /// Returns what an option asks for, or `None` if no command has it.
     pub(crate) fn of_word(word: &str) -> Option<Setting>
         ensures { result ≡ setting_in word.now }
     {
@@ -171,7 +172,7 @@ impl Setting {
 }
 
 impl Settings {
-    /// Returns the settings without any option.
+    /// Returns the settings of no options.
     pub(crate) fn new() -> Settings
         ensures { result ≡ no_settings }
     {
@@ -189,7 +190,7 @@ impl Settings {
         }
     }
 
-    /// Returns the settings with one more option, or `None` if there is such an option.
+    /// Returns the settings with one more option, or `None` if an earlier one asks for the same.
     pub(crate) fn with(self, setting: Setting) -> Option<Settings>
         ensures { result ≡ with_setting self setting }
     {
@@ -235,7 +236,8 @@ impl Settings {
         }
     }
 
-    /// Returns how an operand of this kind is read: a value as a string where that is asked for.
+    /// Returns the kind by which an operand of this kind is read: `Text` for a value with
+    /// `--string`.
     pub(crate) fn kind_read(self, kind: OperandKind) -> OperandKind
         ensures { result ≡ kind_read self kind }
     {
@@ -252,8 +254,8 @@ impl Settings {
         self.input == Some(RequestedInput::Stream)
     }
 
-    /// Returns whether there would be a stream, and an option that asks for other rules than the
-    /// usual ones, by which a stream is read.
+    /// Returns whether the options and this one ask for a stream and for other rules than the usual
+    /// ones. A stream is read by the usual ones only.
     pub(crate) fn has_stream_rules_with(self, setting: Setting) -> bool
         ensures { result ≡ rules_of_stream self setting }
     {

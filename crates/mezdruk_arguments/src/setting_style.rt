@@ -28,7 +28,8 @@ fn read_spaces(count: u8) -> &'static str
 }
 
 impl RequestedLayout {
-    /// Returns the indent, or `None` without whitespace. There are 8 spaces at most.
+    /// Returns the whitespace by which each level is indented, or `None` for the layout without
+    /// whitespace. More than 8 spaces are not returned.
     pub fn indent(self) -> Option<&'static str>
         ensures text { option_map (λ s. s.now) result ≡ indent_text self }
     {
@@ -41,8 +42,8 @@ impl RequestedLayout {
 }
 
 impl Settings {
-    /// Returns the layout for a command: two spaces for `fmt` and compact for the others if no
-    /// option asks for one.
+    /// Returns the layout in which the command prints values. If no option asks for one, it is an
+    /// indent of two spaces for `fmt`, and no whitespace for all other commands.
     pub fn layout_for(self, verb: Verb) -> RequestedLayout
         ensures { result ≡ command_layout self verb }
     {
@@ -53,7 +54,8 @@ impl Settings {
         }
     }
 
-    /// Returns the style for a command, or `None` for `check`, which prints nothing.
+    /// Returns the style in which the command prints values, or `None` for `check`, which prints
+    /// none.
     pub fn style_for(self, verb: Verb) -> Option<Style<'static>>
         ensures { MatchOption result (verb ≡ Verb.Check) (λ s.
             (indent_of s ≡ indent_text (command_layout self verb)) × (is_sorted s ≡ self.sorted)) }
@@ -67,8 +69,9 @@ impl Settings {
         }
     }
 
-    /// Returns the rules by which documents are read: 254 levels at most if no option asks for
-    /// another number, which is 1,024 at most, and keys that may repeat if none forbids it.
+    /// Returns the rules by which documents are read. They allow at most 254 levels unless an
+    /// option asks for another number, and never more than 1,024. Keys may repeat unless an option
+    /// forbids it.
     pub fn rules(self) -> Rules
         ensures { rules_of result ≡ command_rules self }
     {

@@ -28,7 +28,7 @@ fn is_index(number: Number) -> bool
     }
 }
 
-/// Whether a value is a step: a key or an index.
+/// Returns whether a value is a step: a key or an index.
 pub(crate) fn is_step(view: View<'_>) -> bool
     ensures { result ≡ is_some (step_in (seen view.entry)) }
 {
@@ -41,7 +41,8 @@ pub(crate) fn is_step(view: View<'_>) -> bool
     }
 }
 
-/// Returns the pointer that a text is, or `None` if it is none.
+/// Returns the JSON Pointer that a text spells, or `None` if it spells none. Fails if memory runs
+/// out.
 #[tactic(auto, using(crate::proofs::Spelled::no_pointer))]
 pub(crate) fn parse_pointer(alloc: Global, text: &str) -> Result<Option<Pointer>, OperandError>
     ensures ok { IfOk result (λ o. option_map pointer_tokens o ≡ pointer_of text.now) }
@@ -56,7 +57,7 @@ pub(crate) fn parse_pointer(alloc: Global, text: &str) -> Result<Option<Pointer>
     }
 }
 
-/// Whether a value is an array of steps.
+/// Returns whether a value is an array of steps. Fails if memory runs out.
 pub(crate) fn is_path(alloc: Global, value: &Value) -> Result<bool, OperandError>
     ensures ok { IfOk result (λ b. b ≡ path_formed (tree_of value.now)) }
     ensures only { IfErr result (λ r. r ≡ OperandError.OutOfMemory) }
@@ -68,7 +69,7 @@ pub(crate) fn is_path(alloc: Global, value: &Value) -> Result<bool, OperandError
     }
 }
 
-/// Whether a value is an array of edits.
+/// Returns whether a value is an array of edits. Fails if memory runs out.
 pub(crate) fn are_edits(alloc: Global, value: &Value) -> Result<bool, OperandError>
     ensures ok { IfOk result (λ b. b ≡ edits_formed (tree_of value.now)) }
     ensures only { IfErr result (λ r. r ≡ OperandError.OutOfMemory) }
@@ -88,8 +89,8 @@ fn is_edit_value(alloc: Global, view: View<'_>) -> bool {
     }
 }
 
-/// Returns the number of the first element, from 0, that is no edit or no step, or `None` if the
-/// value is no array or the operand is none.
+/// Returns the index of the first element that is no edit or no step, counted from 0. Returns
+/// `None` if the value is no array, or if the operand is not one of edits or steps.
 pub(crate) fn first_unspelled(alloc: Global, kind: OperandKind, value: &Value) -> Option<usize> {
     let array = value.view().as_array()?;
     let mut number = 0usize;

@@ -6,7 +6,7 @@ ghost use Rattle.mezdruk_arguments.specs.Arguments.{verb_in, operands_of, takes,
 use crate::operand::OperandKind;
 use crate::setting::Setting;
 
-/// A command of `mezdruk`.
+/// The commands of `mezdruk`.
 ///
 /// ```
 /// use mezdruk_arguments::{OperandKind, Verb};
@@ -16,25 +16,25 @@ use crate::setting::Setting;
 /// ```
 #[derive(Clone, Copy, Debug, PartialEq, Eq)]
 pub enum Verb {
-    /// Lays documents out.
+    /// Prints documents in a layout.
     Fmt,
-    /// Prints nothing but errors.
+    /// Reports the errors of documents, and prints nothing else.
     Check,
-    /// Prints the value at a place, or those at several places.
+    /// Prints the value where a path leads, or those where several paths lead.
     Get,
-    /// Prints the keys of the object at a place.
+    /// Prints the keys of the object where a path leads.
     Keys,
-    /// Prints the number of elements or members at a place.
+    /// Prints the number of elements or members where a path leads.
     Length,
-    /// Applies edits.
+    /// Applies a list of edits.
     Edit,
-    /// Puts a value where a path leads.
+    /// Sets the value where a path leads.
     Set,
-    /// Puts a member into the object where a path leads.
+    /// Inserts a member into the object where a path leads.
     Insert,
     /// Appends an element to the array where a path leads.
     Push,
-    /// Takes a member or an element out.
+    /// Removes a member or an element where a path leads.
     Remove,
     /// Applies a JSON Patch (RFC 6902).
     Patch,
@@ -58,7 +58,7 @@ fn text_after_name<'a>(word: &'a str, name: &str) -> Option<&'a str>
 }
 
 impl Verb {
-    /// Returns the name of the command.
+    /// Returns the name of the command, such as `fmt`.
     pub fn name(self) -> &'static str
         ensures { result.now ≡ verb_name self }
     {
@@ -80,7 +80,7 @@ impl Verb {
         }
     }
 
-    /// Returns the command of a word, or `None` if it is the name of none.
+    /// Returns the command of this name, or `None` if there is none.
     pub(crate) fn of_word(word: &str) -> Option<Verb>
         ensures { result ≡ verb_in word.now }
     {
@@ -103,7 +103,7 @@ impl Verb {
         }
     }
 
-    /// Returns the operands that precede the files.
+    /// Returns the kinds of the operands that the command requires, in order. Files follow them.
     pub fn operands(self) -> &'static [OperandKind]
         ensures { result.now ≡ operands_of self }
     {
@@ -119,7 +119,8 @@ impl Verb {
         }
     }
 
-    /// Returns the file that an option names for the operand, or `None` if it names none.
+    /// Returns the file that an option such as `--edits=FILE` names for the command's operand, or
+    /// `None` if it is no such option of the command.
     pub(crate) fn source_file<'a>(self, word: &'a str) -> Option<&'a str>
         ensures { option_map (λ s. s.now) result ≡ source_in self word.entry.now }
     {
@@ -141,7 +142,7 @@ impl Verb {
         }
     }
 
-    /// Returns whether the command has such an option.
+    /// Returns whether the command has an option that asks for this.
     pub(crate) fn takes(self, setting: Setting) -> bool
         ensures { result ≡ takes self setting }
     {

@@ -5,7 +5,7 @@ ghost use Rattle.mezdruk_c.specs.Codes.{library_version, code_name};
 
 use crate::slice::Slice;
 
-/// Writes the version of the library, `0.1.0`.
+/// Writes the version of the library to `version`: the text `0.1.0`, in bytes that are never freed.
 #[unsafe(no_mangle)]
 pub extern "C" fn mezdruk_version(version: &mut Slice)
     ensures { version.new.bytes.now ≡ library_version }
@@ -48,8 +48,8 @@ fn name_of_code(code: u8) -> Option<&'static [u8]>
     }
 }
 
-/// Writes the name of a fault's code, such as `EofWhileParsing`. Returns false if the number is no
-/// code of a fault.
+/// Writes the name of an error code, such as `EofWhileParsing`, to `name`. `code` is the one of a
+/// fault report. Returns false, and leaves `name` unchanged, if no error has this code.
 #[unsafe(no_mangle)]
 pub extern "C" fn mezdruk_code_name(code: u8, name: &mut Slice) -> bool
     ensures named { OnTrue result (code_name code ≡ Some name.new.bytes.now) }

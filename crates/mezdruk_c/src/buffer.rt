@@ -8,8 +8,8 @@ use json_io::Result;
 use std::alloc::Global;
 use std::ptr::null;
 
-/// The bytes of a result: `length` bytes at `bytes`, which stay until the buffer is freed or takes
-/// another result. Memory of zeros is a buffer of no bytes.
+/// The bytes of a result: `length` bytes at the address `bytes`. They stay there until the buffer
+/// is freed or receives another result. Memory of zeros is a buffer of no bytes.
 #[repr(C)]
 #[derive(Drop)]
 pub struct ResultBuffer {
@@ -24,7 +24,7 @@ impl ResultBuffer {
     ghost use Rattle.json_io.specs.Errors.{OnlyNoMemory};
     ghost use Rattle.mezdruk_c.specs.Buffers.{buffer_bytes};
 
-    /// A buffer of no bytes.
+    /// Creates a buffer of no bytes. Allocates nothing.
     pub fn empty(alloc: Global) -> ResultBuffer
         ensures { buffer_bytes result ≡ [] }
     {
@@ -35,7 +35,7 @@ impl ResultBuffer {
         }
     }
 
-    /// A buffer of the bytes. Fails with `NoMemory` if memory runs out.
+    /// Creates a buffer that owns the bytes of `vec`. Fails with `NoMemory` if memory runs out.
     pub fn of(alloc: Global, vec: Vec<u8>) -> Result<ResultBuffer>
         ensures ok { IfOk result (λ b. buffer_bytes b ≡ vec.items) }
         ensures only { OnlyNoMemory result }

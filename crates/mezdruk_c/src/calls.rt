@@ -14,8 +14,9 @@ use crate::reading::{
 };
 use std::alloc::Global;
 
-/// Writes what a node of the document is. Returns false if the document is empty or has no such
-/// node.
+/// Writes what is at `node`, the number of a value or a name in the document, to `shown`. Returns
+/// false, and leaves `shown` unchanged, if the document is empty or has no such node. The document
+/// stays the same.
 #[unsafe(no_mangle)]
 pub extern "C" fn mezdruk_read(
     alloc: Global,
@@ -43,7 +44,9 @@ pub extern "C" fn mezdruk_read(
     }
 }
 
-/// Writes the node of an element of an array, counted from 0. Returns false if there is none.
+/// Writes the node of the element at `index` of an array, counted from 0, to `element`. `node` is
+/// the number of the array's node. Returns false, and leaves `element` unchanged, if `node` is no
+/// array of the document or has no such element. The document stays the same.
 #[unsafe(no_mangle)]
 pub extern "C" fn mezdruk_element(
     alloc: Global,
@@ -74,8 +77,9 @@ pub extern "C" fn mezdruk_element(
     }
 }
 
-/// Writes the node of the value of a member of an object, counted from 0. Returns false if there is
-/// none.
+/// Writes the node of the value of the member at `index` of an object, counted from 0, to `value`.
+/// `node` is the number of the object's node. Returns false, and leaves `value` unchanged, if
+/// `node` is no object of the document or has no such member. The document stays the same.
 #[unsafe(no_mangle)]
 pub extern "C" fn mezdruk_member(
     alloc: Global,
@@ -105,8 +109,13 @@ pub extern "C" fn mezdruk_member(
     }
 }
 
-/// Copies the bytes of a string, or the literal of a number that is no integer of 64 bits, and
-/// writes its length. It is copied only if there is room. Returns false if there is no such text.
+/// Copies the content of a string or a name, or the literal of a number that is no integer of 64
+/// bits, to the beginning of `bytes`, and writes its number of bytes to `length`. `node` is the
+/// number of its node.
+///
+/// If `bytes` is shorter than the text, nothing is copied, but `length` is written. Returns false,
+/// and leaves `bytes` and `length` unchanged, if there is no such text. The document stays the
+/// same.
 #[unsafe(no_mangle)]
 pub extern "C" fn mezdruk_text(
     alloc: Global,
@@ -135,8 +144,12 @@ pub extern "C" fn mezdruk_text(
     }
 }
 
-/// Copies the name of a member of an object, and writes its length. It is copied only if there is
-/// room. Returns false if there is no such member.
+/// Copies the name of the member at `index` of an object, counted from 0, to the beginning of
+/// `bytes`, and writes its number of bytes to `length`. `node` is the number of the object's node.
+///
+/// If `bytes` is shorter than the name, nothing is copied, but `length` is written. Returns false,
+/// and leaves `bytes` and `length` unchanged, if there is no such member. The document stays the
+/// same.
 #[unsafe(no_mangle)]
 pub extern "C" fn mezdruk_name(
     alloc: Global,
@@ -166,8 +179,10 @@ pub extern "C" fn mezdruk_name(
     }
 }
 
-/// Writes the node after the value at a node and all that is below it: of an element the next one,
-/// and of a member's value the next name, if there are more. Returns false if there is no such node.
+/// Writes the node that follows the value at `node`, with all its elements and members, to `after`.
+/// It is the next element after an element, and the next member's name after a member's value, if
+/// there is one. Returns false, and leaves `after` unchanged, if the document has no such node. The
+/// document stays the same.
 #[unsafe(no_mangle)]
 pub extern "C" fn mezdruk_after(
     alloc: Global,
@@ -194,8 +209,9 @@ pub extern "C" fn mezdruk_after(
     }
 }
 
-/// Writes the double nearest to a number, of two that are equally near the even one. Returns false
-/// if it is not finite, and for any other node.
+/// Writes the double nearest to the number at `node` to `number`; of two that are equally near, the
+/// even one. Returns false, and leaves `number` unchanged, if that double is not finite, or if the
+/// node is not a number. The document stays the same.
 #[unsafe(no_mangle)]
 pub extern "C" fn mezdruk_real(
     alloc: Global,

@@ -29,9 +29,9 @@ fn check(alloc: Global, text: &[u8], options: &Options) -> Result<(), Failure>
     }
 }
 
-/// Returns 0 if the bytes are a JSON text by the rules of the options. Else it returns the status
-/// and writes the fault: 1 for a text that is not valid, 2 for options that are not, and 6 if
-/// memory ran out.
+/// Checks that the bytes of `text` are a JSON text by the rules of the options, and returns 0 if
+/// they are. Else it writes the error to `fault` and returns the status: 1 for a text that is not
+/// valid, 2 for options that are not valid, and 6 if memory ran out.
 #[unsafe(no_mangle)]
 pub extern "C" fn mezdruk_check(
     alloc: Global,

@@ -9,11 +9,12 @@ use json_io::Result;
 use std::alloc::Global;
 use std::rc::Rc;
 
-/// A parsed document. Memory of zeros is an empty document.
+/// A parsed document. Each value and each name in it is a node with a number. Memory of zeros is an
+/// empty document, which has no nodes.
 #[repr(C)]
 #[derive(Drop)]
 pub struct Document {
-    /// The node of the whole value.
+    /// The number of the node of the whole value.
     pub root: u32,
     pub(crate) owner: Owner,
 }
@@ -24,7 +25,7 @@ impl Document {
     ghost use Rattle.mezdruk_c.specs.Owned.{owned_payload};
     ghost use Rattle.mezdruk_c.specs.Payloads.{document_owned};
 
-    /// An empty document.
+    /// Creates an empty document, which has no nodes. Allocates nothing.
     pub fn empty(alloc: Global) -> Document
         ensures { owned_payload result.owner ≡ None }
     {
@@ -34,7 +35,7 @@ impl Document {
         }
     }
 
-    /// A document of these contents. Fails with `NoMemory` if memory runs out.
+    /// Creates a document that owns `doc`. Fails with `NoMemory` if memory runs out.
     pub fn of(alloc: Global, doc: Rc<Doc>) -> Result<Document>
         ensures ok { IfOk result (λ d. document_owned (owned_payload d.owner) ≡ Some doc.value) }
         ensures root { IfOk result (λ d. d.root ≡ doc_root doc.value) }

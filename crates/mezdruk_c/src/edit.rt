@@ -77,10 +77,12 @@ fn edit(
     }
 }
 
-/// Edits a JSON text: reads it and the edits, applies these in turn, and returns the text of the
-/// edited value in `output`. Returns 0, or else the status, and writes the fault: 1 for a text that
-/// is not valid, 2 for options or edits that are not, 3 for an edit that does not apply, and 6 if
-/// memory ran out. The output stays then.
+/// Reads a JSON text, applies the edits in order, writes the text of the edited value to `output`,
+/// and returns 0. `edits` is a JSON text too: an array of edits.
+///
+/// On an error it writes the error to `fault`, leaves `output` unchanged, and returns the status: 1
+/// for a text that is not valid, 2 for options or edits that are not valid, 3 for an edit that does
+/// not apply, and 6 if memory ran out.
 #[unsafe(no_mangle)]
 pub extern "C" fn mezdruk_edit(
     alloc: Global,

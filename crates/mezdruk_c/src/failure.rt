@@ -10,11 +10,14 @@ use json_patch::{PatchCode, PatchError};
 pub enum Failure {
     /// The options are not valid.
     Options,
-    /// The edits, the patch or the other text is not valid, or memory ran out for it.
+    /// The argument beside the text (the edits, the patch, the pointer or the other text) could not
+    /// be read, or memory ran out for it.
     Argument(Error),
-    /// The text is not valid, an edit does not apply to it, or memory ran out.
+    /// The text could not be read, an edit does not apply to its value, the document has no such
+    /// node, or memory ran out.
     Text(Error),
-    /// The pointer is not valid, or the patch or the pointer does not apply, or memory ran out.
+    /// The patch or the pointer does not apply to the value, the pointer is not valid, or memory
+    /// ran out.
     Patch(PatchError),
     /// No merge patch leads from the one text to the other.
     NoMergePatch,
@@ -52,8 +55,9 @@ fn patch_status_code(code: PatchCode) -> u8
 }
 
 impl Failure {
-    /// Returns the status: 1 if the text is not valid, 2 if the options, the edits or the patch are
-    /// not, 3 if a change does not apply or there is none, and 6 if memory ran out.
+    /// Returns the status that the call returns: 1 if the text is not valid, 2 if the options or
+    /// another argument are not valid, 3 if a patch, an edit or a pointer does not apply or there
+    /// is no merge patch, and 6 if memory ran out.
     pub fn status(&self) -> u8
         ensures { result ≡ status_of_failure self.now }
     {

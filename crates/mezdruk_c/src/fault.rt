@@ -7,29 +7,30 @@ use crate::buffer::ResultBuffer;
 use crate::failure::Failure;
 use json_io::Place;
 
-/// The offset and the item of a fault that has none.
+/// The offset and the item of an error that has none.
 const NONE: usize = usize::MAX;
 
-/// The code of options that are not valid.
+/// The code of the error that the options are not valid.
 const BAD_OPTIONS: u8 = 32;
 
 /// The code of two texts between which there is no merge patch.
 const NO_MERGE_PATCH: u8 = 33;
 
-/// What C learns of a failure.
+/// The error of a call that failed: its code, and where it is as far as that is known.
 #[repr(C)]
 #[derive(Clone, Copy)]
 pub struct FaultReport {
-    /// The offset in bytes, or the greatest number of the type if no position is known.
+    /// The offset of the error in bytes, or the greatest number of the type if the position is not
+    /// known.
     pub offset: usize,
-    /// The line, counted from 1, or 0.
+    /// The line of the error, counted from 1, or 0 if the position is not known.
     pub line: usize,
-    /// The column in bytes, counted from 1, or 0.
+    /// The column of the error in bytes, counted from 1, or 0 if the position is not known.
     pub column: usize,
-    /// The number of the edit or operation that does not apply, counted from 0, or the greatest
-    /// number of the type.
+    /// The index of the edit or operation that does not apply, counted from 0, or the greatest
+    /// number of the type if the error is in none.
     pub item: usize,
-    /// The number of the error's code.
+    /// The number of the error's code, whose name `mezdruk_code_name` writes.
     pub code: u8,
 }
 
@@ -78,7 +79,7 @@ impl FaultReport {
         }
     }
 
-    /// The fault of a failure.
+    /// Returns the report of a failure.
     pub fn of(failure: &Failure) -> FaultReport
         ensures { result ≡ fault_of failure.now }
     {
@@ -92,8 +93,8 @@ impl FaultReport {
     }
 }
 
-/// Returns the status of an outcome, 0 for a success, and writes the buffer of a success or the
-/// fault of a failure.
+/// Returns the status of a call's outcome: 0 for a success, whose buffer is written to `output`,
+/// and else that of the failure, whose report is written to `fault`.
 pub fn give(
     outcome: Result<ResultBuffer, Failure>,
     output: &mut ResultBuffer,
@@ -113,7 +114,8 @@ pub fn give(
     }
 }
 
-/// Returns the status of an outcome, 0 for a success, and writes the fault of a failure.
+/// Returns the status of a call's outcome: 0 for a success, and else that of the failure, whose
+/// report is written to `fault`.
 pub fn report_outcome(outcome: Result<(), Failure>, fault: &mut FaultReport) -> u8
     ensures { TellsOutcome outcome result fault.new }
 {

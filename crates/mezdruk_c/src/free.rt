@@ -7,7 +7,8 @@ use crate::buffer::ResultBuffer;
 use crate::document::Document;
 use std::alloc::Global;
 
-/// Frees the bytes of a buffer, which has none then. A buffer of no bytes stays so.
+/// Frees the bytes of a buffer, and leaves it with none. A buffer of no bytes stays one, so a
+/// second call does no harm.
 #[unsafe(no_mangle)]
 pub extern "C" fn mezdruk_free(alloc: Global, buffer: &mut ResultBuffer)
     ensures { buffer_bytes buffer.new ≡ [] }
@@ -15,7 +16,8 @@ pub extern "C" fn mezdruk_free(alloc: Global, buffer: &mut ResultBuffer)
     *buffer = ResultBuffer::empty(alloc);
 }
 
-/// Frees a document, which is empty then. An empty document stays so.
+/// Frees a document, and leaves it empty. An empty document stays empty, so a second call does no
+/// harm.
 #[unsafe(no_mangle)]
 pub extern "C" fn mezdruk_free_document(alloc: Global, document: &mut Document)
     ensures { owned_payload document.new.owner ≡ None }

@@ -9,7 +9,7 @@ use std::alloc::Global;
 use std::marker::Model;
 use std::ptr::null_mut;
 
-/// A pointer that owns a boxed value if `full` says so, and else owns nothing.
+/// A pointer that owns a boxed payload if its ghost field `full` is true, and else owns nothing.
 #[repr(C)]
 pub struct BoxedPointer {
     ptr: *mut u8,
@@ -23,7 +23,7 @@ impl Model for BoxedPointer {
 }
 
 impl BoxedPointer {
-    /// A pointer that owns the value.
+    /// Creates a pointer that owns the payload.
     pub fn of(payload: Box<Payload>) -> BoxedPointer
         ensures full { result.full ≡ true }
         ensures value { result.value ≡ payload.value }
@@ -31,7 +31,7 @@ impl BoxedPointer {
         BoxedPointer::of_parts(PointerParts::of(payload))
     }
 
-    /// The null pointer, which owns nothing.
+    /// Creates a null pointer, which owns nothing.
     pub fn none(alloc: Global) -> BoxedPointer
         ensures full { result.full ≡ false }
     {
@@ -41,7 +41,7 @@ impl BoxedPointer {
         }
     }
 
-    /// Returns the value that it owns.
+    /// Returns the payload that the pointer owns. The pointer must own one.
     pub fn into_box(self) -> Box<Payload>
         requires { self.full ≡ true }
         ensures { result.value ≡ self.value }
@@ -49,7 +49,7 @@ impl BoxedPointer {
         self.into_parts().into_box()
     }
 
-    /// Lets go of a pointer that owns nothing.
+    /// Consumes a pointer that owns nothing.
     pub fn discard(self)
         requires { self.full ≡ false }
     {

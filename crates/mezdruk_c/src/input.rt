@@ -14,9 +14,9 @@ use std::rc::Rc;
 /// The greatest number of bytes that are read.
 const MAX_BYTES: usize = 4_294_967_295;
 
-/// Returns the document of a text (RFC 8259). Fails with `TooLarge` if it has more than
-/// 4,294,967,295 bytes, with `InvalidUTF8` or a fault of the grammar by the rules at its offset,
-/// and with `NoMemory` if memory runs out.
+/// Reads a JSON text (RFC 8259) by the rules and returns its document. Fails with `TooLarge` if the
+/// text has more than 4,294,967,295 bytes, and with `NoMemory` if memory runs out. Fails with
+/// `InvalidUTF8` or an error of the grammar or the rules at its offset if the text is not valid.
 pub fn read_input(alloc: Global, text: &[u8], rules: Rules) -> Result<Rc<Doc>>
     ensures ok { IfOk result (λ d. IsInput (rules_of rules) text.now
         (doc_tree d.value (doc_root d.value))) }

@@ -36,9 +36,13 @@ fn lend_name_in(payload: &Payload, node: u32, index: usize) -> Option<BorrowedBy
     }
 }
 
-/// Lends the bytes of a string or a name, or the literal of a number that is no integer of 64 bits:
-/// writes their address and their length. They stay until the document is freed or replaced.
-/// Returns false if there is no such text.
+/// Lends the content of a string or a name, or the literal of a number that is no integer of 64
+/// bits: writes the address of its first byte to `bytes` and its number of bytes to `length`.
+/// `node` is the number of its node. The bytes stay at that address until the document is freed or
+/// replaced.
+///
+/// Returns false, and leaves `bytes` and `length` unchanged, if there is no such text. The document
+/// stays the same.
 #[unsafe(no_mangle)]
 pub extern "C" fn mezdruk_lend(
     alloc: Global,
@@ -69,8 +73,12 @@ pub extern "C" fn mezdruk_lend(
     }
 }
 
-/// Lends the name of a member of an object, counted from 0, in the same way. Returns false if there
-/// is no such member.
+/// Lends the name of the member at `index` of an object, counted from 0: writes the address of its
+/// first byte to `bytes` and its number of bytes to `length`. `node` is the number of the object's
+/// node. The bytes stay at that address until the document is freed or replaced.
+///
+/// Returns false, and leaves `bytes` and `length` unchanged, if there is no such member. The
+/// document stays the same.
 #[unsafe(no_mangle)]
 pub extern "C" fn mezdruk_lend_name(
     alloc: Global,

@@ -1,5 +1,5 @@
-//! The calls of the C library, over the library of this repository. `bindings/mezdruk.h` declares
-//! them.
+//! The calls of the C library, which `bindings/mezdruk.h` declares. Each does with the caller's
+//! bytes what the Rust crates of this repository do.
 #![tactic(auto)]
 
 mod about;

@@ -8,21 +8,23 @@ ghost use Rattle.mezdruk_c.specs.Nodes.{ShowsTree};
 use json_doc::DocView;
 use json_number::Integer;
 
-/// What a node of a document is, as C reads it.
+/// What the value or name at a node of a document is, as C reads it.
 #[repr(C)]
 #[derive(Clone, Copy)]
 pub struct Node {
-    /// The kind: 0 null, 1 boolean, 2 number, 3 string, 4 object, 5 array.
+    /// The JSON kind: 0 for null, 1 boolean, 2 number, 3 string, 4 object, 5 array.
     pub kind: u8,
-    /// The boolean: 1 for true, and 0 for false and for every other kind.
+    /// 1 for the boolean true, and 0 for false and for every other kind.
     pub boolean: u8,
-    /// Of a number: 1 for an integer in `natural`, 2 for one in `negative`, and 0 for a literal.
+    /// Where an integer is: 1 if it is in `natural`, 2 if it is in `negative`, and 0 if the value
+    /// is not an integer of 64 bits.
     pub form: u8,
-    /// An integer from 0 to 2^64 - 1.
+    /// The integer, from 0 to 2^64 - 1, if `form` is 1. Else of no meaning.
     pub natural: u64,
-    /// An integer from -2^63 to -1.
+    /// The integer, from -2^63 to -1, if `form` is 2. Else of no meaning.
     pub negative: i64,
-    /// How many elements or members there are, or how many bytes a string or a literal has.
+    /// The number of elements of an array or members of an object, or the number of bytes of a
+    /// string or of the literal of a number that is no integer of 64 bits. Else 0.
     pub length: usize,
 }
 
@@ -49,7 +51,8 @@ fn integer_as(view: DocView<'_>) -> (u8, u64, i64)
     }
 }
 
-/// Returns the bytes of a string, or the literal of a number that is no integer of 64 bits.
+/// Returns the content of a string, or the literal of a number that is no integer of 64 bits;
+/// `None` for every other value.
 pub fn node_string(view: DocView<'_>) -> Option<&str>
     ensures { option_map (λ s. s.now) result ≡ text_or_literal (view_tree view.entry) }
 {
@@ -69,7 +72,7 @@ fn length_of(view: DocView<'_>) -> usize
     }
 }
 
-/// Returns what a node is.
+/// Returns what the value at a document position is, as C reads it.
 pub fn node_of(view: DocView<'_>) -> Node
     ensures { ShowsTree result (view_tree view.entry) }
 {

@@ -7,27 +7,29 @@ ghost use Rattle.mezdruk_c.specs.Layouts.{indent_asked};
 use json_layout::Style;
 use json_text::Rules;
 
-/// How a text is read and laid out.
+/// How a text is read and how the result is printed. Not valid if `depth` is more than 1,024 or
+/// `indent` is more than 10.
 #[repr(C)]
 #[derive(Clone, Copy)]
 pub struct Options {
-    /// The most levels of arrays and objects in the text, at most 1,024: `[]` has 1.
+    /// The greatest number of levels of arrays and objects in the text, at most 1,024. `[]` has 1
+    /// level.
     pub depth: u32,
-    /// 0 if names may repeat in an object.
+    /// 0 if the names in an object may repeat. With any other number, a repeated name is an error.
     pub unique_keys: u8,
-    /// 0 if members keep their order. Else they are sorted by their names.
+    /// 0 if members keep their order. With any other number, they are sorted by their names.
     pub sort_keys: u8,
-    /// 0 for a text without whitespace, one more than the number of spaces for an indent of 0 to 8
-    /// spaces, and 10 for an indent of a tab.
+    /// The layout of the result: 0 for no whitespace, n + 1 for an indent of n spaces, n from 0 to
+    /// 8, and 10 for an indent of a tab.
     pub indent: u8,
 }
 
-/// What options ask for.
+/// The rules and the style that [`Options`] ask for.
 #[derive(Clone, Copy)]
 pub struct RequestedSettings {
-    /// The rules by which a text is read.
+    /// The rules by which the text is read.
     pub rules: Rules,
-    /// The style of the result.
+    /// The style in which the result is printed.
     pub style: Style<'static>,
 }
 
@@ -70,7 +72,7 @@ impl Options {
     ghost use Rattle.json_text.specs.Ruled.{rules_of};
     ghost use Rattle.mezdruk_c.specs.Asked.{AreOptions, HasRules, rules_of_options, sorts_asked, text_by_options};
 
-    /// Returns the rules, or `None` if the levels are more than 1,024.
+    /// Returns the rules by which a text is read, or `None` if `depth` is more than 1,024.
     pub fn rules(&self) -> Option<Rules>
         ensures { MatchOption result (¬ (HasRules self.now))
             (λ r. HasRules self.now × (rules_of r ≡ rules_of_options self.now)) }
@@ -78,7 +80,7 @@ impl Options {
         Rules::new(self.depth, self.unique_keys != 0)
     }
 
-    /// Returns the style, or `None` if `indent` is more than 10.
+    /// Returns the style in which the result is printed, or `None` if `indent` is more than 10.
     pub fn style(&self) -> Option<Style<'static>>
         ensures { MatchOption result (indent_asked self.now.indent ≡ None)
             (λ s. (indent_asked self.now.indent ≡ Some (indent_of s))
@@ -90,7 +92,8 @@ impl Options {
         }
     }
 
-    /// Returns the rules and the style, or `None` if the options are not valid.
+    /// Returns the rules and the style that the options ask for, or `None` if `depth` is more than
+    /// 1,024 or `indent` is more than 10.
     pub fn asked(&self) -> Option<RequestedSettings>
         ensures { MatchOption result (¬ (AreOptions self.now))
             (λ a. AreOptions self.now × (rules_of a.rules ≡ rules_of_options self.now)

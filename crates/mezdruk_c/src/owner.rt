@@ -6,7 +6,8 @@ use crate::payload::Payload;
 use std::alloc::Global;
 use std::mem::replace;
 
-/// A pointer to a value, and whether there is one. Memory of zeros is an owner of nothing.
+/// An owner of a boxed payload or of nothing. It is laid out for C, so that memory of zeros owns
+/// nothing.
 #[repr(C)]
 pub struct Owner {
     full: bool,
@@ -17,7 +18,7 @@ pub struct Owner {
 impl Owner {
     ghost use Rattle.mezdruk_c.specs.Owned.{owned_payload};
 
-    /// An owner of nothing.
+    /// Creates an owner of nothing. Allocates nothing.
     pub fn empty(alloc: Global) -> Owner
         ensures { owned_payload result ≡ None }
     {
@@ -27,7 +28,7 @@ impl Owner {
         }
     }
 
-    /// An owner of the value.
+    /// Creates an owner that takes over the payload.
     pub fn of(payload: Box<Payload>) -> Owner
         ensures { owned_payload result ≡ Some payload.value }
     {
@@ -37,7 +38,7 @@ impl Owner {
         }
     }
 
-    /// Returns the value, or `None` if there is none.
+    /// Consumes the owner and returns its payload, or `None` if it owns nothing.
     pub fn into_box(self) -> Option<Box<Payload>>
         ensures { option_map (λ b. b.value) result ≡ owned_payload self }
     {
@@ -50,7 +51,8 @@ impl Owner {
         }
     }
 
-    /// Takes the value out, and leaves nothing.
+    /// Removes the payload and returns it, or returns `None` if there is none. Owns nothing
+    /// afterwards.
     pub fn take(&mut self, alloc: Global) -> Option<Box<Payload>>
         ensures value { option_map (λ b. b.value) result ≡ owned_payload self.old }
         ensures left { owned_payload self.new ≡ None }

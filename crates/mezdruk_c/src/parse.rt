@@ -43,8 +43,11 @@ fn keep(outcome: Result<Document, Failure>, document: &mut Document) -> Result<(
     }
 }
 
-/// Parses a JSON text. Returns 0, or else the status, and writes the fault: 1 for a text that is
-/// not valid, 2 for options that are not, and 6 if memory ran out. The document stays then.
+/// Parses a JSON text by the rules of the options, writes the parsed document to `document`, and
+/// returns 0.
+///
+/// On an error it writes the error to `fault`, leaves `document` unchanged, and returns the status:
+/// 1 for a text that is not valid, 2 for options that are not valid, and 6 if memory ran out.
 #[unsafe(no_mangle)]
 pub extern "C" fn mezdruk_parse(
     alloc: Global,

@@ -9,8 +9,8 @@ use crate::address::address;
 use json_doc::{Cell, Doc};
 use std::rc::Rc;
 
-/// A parsed document, and the address of its texts. Their memory stays the same as long as the
-/// document is held.
+/// A parsed document, and the address of its text. The text stays at that address as long as this
+/// holds the document.
 #[derive(Drop)]
 pub struct Parsed {
     pub(crate) doc: Rc<Doc>,
@@ -18,12 +18,13 @@ pub struct Parsed {
     ghost placed: { InBlock texts } by { placed_once texts },
 }
 
-/// Bytes that a document lends: `length` bytes at `bytes`.
+/// Bytes that a document lends: `length` bytes at the address `bytes`. They stay there as long as
+/// the document is held.
 #[derive(Clone, Copy)]
 pub struct BorrowedBytes {
-    /// The address of the first.
+    /// The address of the first byte.
     pub bytes: *const u8,
-    /// How many bytes there are.
+    /// The number of bytes.
     pub length: usize,
 }
 
@@ -41,7 +42,7 @@ impl Parsed {
     ghost use Rattle.mezdruk_c.specs.Payloads.{tree_at_node, node_text, member_name};
     ghost use denote.RawPtr.{◌+ₚ◌};
 
-    /// Holds a document.
+    /// Creates a holder of `doc`.
     pub fn of(doc: Rc<Doc>) -> Parsed
         ensures { result.doc ≡ doc }
     {
@@ -60,8 +61,9 @@ impl Parsed {
         }
     }
 
-    /// Lends the bytes of a string or a name, or the literal of a number that is no integer of 64
-    /// bits. Returns `None` for any other node.
+    /// Returns the address and the length of the content of the string or name at `node`, or of the
+    /// literal of a number that is no integer of 64 bits. They are valid as long as `self` holds
+    /// the document. Returns `None` if `node` is any other value or is not in the document.
     pub fn lend(&self, node: u32) -> Option<BorrowedBytes>
         ensures { MatchOption (node_text self.now.doc.value node) (result ≡ None)
             (λ s. IsSomeAnd result (λ l. LendsText self.now s l.bytes l.length)) }
@@ -76,7 +78,9 @@ impl Parsed {
         }
     }
 
-    /// Lends the name of a member of an object, counted from 0. Returns `None` if there is none.
+    /// Returns the address and the length of the name of the member at `index`, counted from 0, of
+    /// the object at `node`. They are valid as long as `self` holds the document. Returns `None` if
+    /// there is no such object or member.
     pub fn lend_name(&self, node: u32, index: usize) -> Option<BorrowedBytes>
         ensures { MatchOption (member_name (tree_at_node self.now.doc.value node) index)
             (result ≡ None)

@@ -5,7 +5,7 @@ ghost use Rattle.std.specs.Box.Ownership.{box_owns};
 use std::alloc::Allocator;
 use std::marker::Model;
 
-/// A box taken apart: it owns what the box owned.
+/// A box as its pointer and its allocator. It owns what the box owned.
 pub struct PointerParts<T, A: Allocator> {
     pub(crate) ptr: *mut T,
     pub(crate) alloc: A,
@@ -17,7 +17,7 @@ impl<T, A: Allocator> Model for PointerParts<T, A> {
 }
 
 impl<T, A: Allocator> PointerParts<T, A> {
-    /// Takes a box apart.
+    /// Takes a box apart without freeing it.
     pub fn of(b: Box<T, A>) -> PointerParts<T, A>
     where
         T: Drop,
@@ -27,7 +27,7 @@ impl<T, A: Allocator> PointerParts<T, A> {
         PointerParts { ptr, alloc }
     }
 
-    /// Returns the box.
+    /// Consumes the parts and returns the box that they came from.
     pub fn into_box(self) -> Box<T, A>
         ensures { result.value ≡ self.value }
     {

@@ -72,10 +72,12 @@ fn merge_texts(
     }
 }
 
-/// Patches a JSON text (RFC 6902): returns the text of what the patch makes of its value in
-/// `output`. Returns 0, or else the status, and writes the fault: 1 for a text that is not valid, 2
-/// for options or a patch that are not JSON texts, 3 for a patch that does not apply, and 6 if
-/// memory ran out. The output stays then.
+/// Reads a JSON text, applies a JSON Patch (RFC 6902) to its value, writes the text of the patched
+/// value to `output`, and returns 0. `operations` is the patch, a JSON text.
+///
+/// On an error it writes the error to `fault`, leaves `output` unchanged, and returns the status: 1
+/// for a text that is not valid, 2 for options that are not valid or a patch that is not a JSON
+/// text, 3 for a patch that does not apply, and 6 if memory ran out.
 #[unsafe(no_mangle)]
 pub extern "C" fn mezdruk_patch(
     alloc: Global,
@@ -95,10 +97,12 @@ pub extern "C" fn mezdruk_patch(
     give(patch_texts(alloc, text, operations, options), output, fault)
 }
 
-/// Merges a patch into a JSON text (RFC 7396): returns the text of what the merge patch makes of
-/// its value in `output`. Returns 0, or else the status, and writes the fault: 1 for a text that is
-/// not valid, 2 for options or a patch that are not, and 6 if memory ran out. The output stays
-/// then.
+/// Reads a JSON text, applies a JSON Merge Patch (RFC 7396) to its value, writes the text of the
+/// patched value to `output`, and returns 0. `patch` is the merge patch, a JSON text.
+///
+/// On an error it writes the error to `fault`, leaves `output` unchanged, and returns the status: 1
+/// for a text that is not valid, 2 for options that are not valid or a patch that is not a JSON
+/// text, and 6 if memory ran out.
 #[unsafe(no_mangle)]
 pub extern "C" fn mezdruk_merge(
     alloc: Global,

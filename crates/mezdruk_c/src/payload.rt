@@ -2,7 +2,7 @@
 
 use crate::parsed::Parsed;
 
-/// A value that one call hands out, for other calls to read and to free.
+/// A value that one call creates and hands to C, for later calls to read and to free.
 #[derive(Drop)]
 pub enum Payload {
     /// No value.

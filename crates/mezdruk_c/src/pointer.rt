@@ -65,10 +65,12 @@ fn get(
     }
 }
 
-/// Returns the text of the value that a pointer (RFC 6901) references in a JSON text in `output`.
-/// Returns 0, or else the status, and writes the fault: 1 for a text that is not valid, 2 for
-/// options that are not or a pointer that is not UTF-8, 3 for a pointer that is not valid or that
-/// references no value, and 6 if memory ran out. The output stays then.
+/// Reads a JSON text, writes the text of the value that a JSON Pointer (RFC 6901) references in it
+/// to `output`, and returns 0.
+///
+/// On an error it writes the error to `fault`, leaves `output` unchanged, and returns the status: 1
+/// for a text that is not valid, 2 for options that are not valid or a pointer that is not UTF-8, 3
+/// for a pointer that is not valid or references no value, and 6 if memory ran out.
 #[unsafe(no_mangle)]
 pub extern "C" fn mezdruk_get(
     alloc: Global,

@@ -25,7 +25,7 @@ use json_value::Value;
 use std::alloc::Global;
 use std::rc::Rc;
 
-/// The failure of a node that is not there.
+/// The failure of a call on a node that the document does not have.
 const NO_NODE: Failure = Failure::Text(Error {
     code: ErrorCode::NotFound,
     place: Place::None,
@@ -112,9 +112,11 @@ fn print_by(
     }
 }
 
-/// Returns the text of the value at a node of the document in `output`. Returns 0, or else the
-/// status, and writes the fault: 2 for options that are not valid, 3 if there is no such node, and
-/// 6 if memory ran out. The output stays then.
+/// Writes the text of the value at `node`, the number of a node of the document, to `output`, in
+/// the style of the options, and returns 0. The document stays the same.
+///
+/// On an error it writes the error to `fault`, leaves `output` unchanged, and returns the status: 2
+/// for options that are not valid, 3 if the document has no such node, and 6 if memory ran out.
 #[unsafe(no_mangle)]
 pub extern "C" fn mezdruk_print(
     alloc: Global,

@@ -24,7 +24,8 @@ fn text_of_value(alloc: Global, value: &Value, style: Style<'_>) -> Result<Vec<u
     }
 }
 
-/// Returns the text of a value in a style. Fails with `NoMemory` if memory runs out.
+/// Returns a buffer with the JSON text of a value in this style. Fails with `NoMemory` if memory
+/// runs out.
 pub fn print_styled(alloc: Global, value: &Value, style: Style<'_>) -> Result<ResultBuffer>
     ensures ok { IfOk result (λ b. buffer_bytes b ≡ printed style.entry (tree_of value.now)) }
     ensures only { OnlyNoMemory result }

@@ -15,7 +15,8 @@ use crate::payload::Payload;
 use json_doc::{Cell, Doc, DocView};
 use json_value::View;
 
-/// Returns the view of a node, or `None` if there is no document or it has no such node.
+/// Returns a view of the value or name at `node`, or `None` if the payload is no document or has no
+/// such node.
 pub fn view_in(payload: &Payload, node: u32) -> Option<DocView<'_>>
     ensures { option_map view_tree result ≡ tree_in payload.now node }
 {
@@ -31,7 +32,8 @@ pub fn view_in(payload: &Payload, node: u32) -> Option<DocView<'_>>
     }
 }
 
-/// Returns what a node is.
+/// Returns what the value or name at `node` is, as C reads it, or `None` if the payload is no
+/// document or has no such node.
 pub fn node_in(payload: &Payload, node: u32) -> Option<Node>
     ensures { MatchOption (tree_in payload.now node) (result ≡ None)
         (λ t. IsSomeAnd result (λ n. ShowsTree n t)) }
@@ -42,7 +44,8 @@ pub fn node_in(payload: &Payload, node: u32) -> Option<Node>
     }
 }
 
-/// Returns the node of an element of an array.
+/// Returns the node of the element at `index`, counted from 0, of the array at `node`, or `None` if
+/// there is no such array or element.
 pub fn element_in(payload: &Payload, node: u32, index: usize) -> Option<u32>
     ensures tree { option_and_then (tree_in payload.now) result
         ≡ element_tree (tree_in payload.now node) index }
@@ -63,7 +66,8 @@ pub fn element_in(payload: &Payload, node: u32, index: usize) -> Option<u32>
     }
 }
 
-/// Returns the node of the value of a member of an object.
+/// Returns the node of the value of the member at `index`, counted from 0, of the object at `node`,
+/// or `None` if there is no such object or member.
 pub fn member_in(payload: &Payload, node: u32, index: usize) -> Option<u32>
     ensures tree { option_and_then (tree_in payload.now) result
         ≡ member_tree (tree_in payload.now node) index }
@@ -96,7 +100,8 @@ fn after_node(doc: &Doc, node: u32) -> u32
     }
 }
 
-/// Returns the node after the value at a node and all that is below it.
+/// Returns the node after the value at `node` and all its elements and members, or `None` if the
+/// payload is no document or has no such node.
 pub fn after_in(payload: &Payload, node: u32) -> Option<u32>
     ensures { MatchOption (tree_in payload.now node) (result ≡ None)
         (λ t. IsSomeAnd result (IsAfterIn payload.now node)) }
@@ -113,7 +118,8 @@ pub fn after_in(payload: &Payload, node: u32) -> Option<u32>
     }
 }
 
-/// Returns the double nearest to a number, if it is finite.
+/// Returns the double nearest to the number at `node`, or `None` if the double is not finite or
+/// there is no number at this node.
 pub fn real_in(payload: &Payload, node: u32) -> Option<f64>
     ensures { result ≡ option_and_then double_in (tree_in payload.now node) }
 {
@@ -123,7 +129,8 @@ pub fn real_in(payload: &Payload, node: u32) -> Option<f64>
     }
 }
 
-/// Returns the name of a member of an object.
+/// Returns the name of the member at `index`, counted from 0, of the object at `node`, or `None` if
+/// there is no such object or member.
 pub fn code_name_in(payload: &Payload, node: u32, index: usize) -> Option<&str>
     ensures { option_map (λ s. s.now) result ≡ member_name (tree_in payload.now node) index }
 {
@@ -133,7 +140,8 @@ pub fn code_name_in(payload: &Payload, node: u32, index: usize) -> Option<&str>
     }
 }
 
-/// Returns the bytes of a string, or the literal of a number that is no integer of 64 bits.
+/// Returns the content of the string at `node`, or the literal of a number there that is no integer
+/// of 64 bits. Returns `None` for any other node, and if there is no such node.
 pub fn text_slice(payload: &Payload, node: u32) -> Option<&str>
     ensures { option_map (λ s. s.now) result
         ≡ option_and_then text_or_literal (tree_in payload.now node) }
@@ -155,7 +163,8 @@ fn copy_text(text: &str, bytes: &mut [u8]) -> usize
     length
 }
 
-/// Copies a text that was found, and returns its length.
+/// Copies the text to the beginning of `bytes` if there is room, and returns its length in bytes in
+/// any case. Returns `None`, and leaves `bytes` unchanged, if `text` is `None`.
 pub fn copy_found(text: Option<&str>, bytes: &mut [u8]) -> Option<usize>
     ensures { CopiesFound bytes.old bytes.new result (option_map (λ s. s.now) text.entry) }
 {

@@ -1,6 +1,6 @@
 // Bytes that stay for ever.
 
-/// Bytes that stay for ever: `length` bytes at `bytes`.
+/// Bytes that are never freed, as C reads them: an address and a length.
 #[repr(C)]
 #[derive(Clone, Copy)]
 pub struct Slice {

@@ -20,8 +20,9 @@ use json_value::Value;
 use std::alloc::Global;
 use std::rc::Rc;
 
-/// Returns the document of a patch, by the usual rules. Fails with `Failure::Argument` if the bytes
-/// are no JSON text, or if memory runs out.
+/// Reads a patch as a JSON text by the usual rules (at most 254 levels, names may repeat) and
+/// returns its document. Fails with [`Failure::Argument`] if the bytes are not a JSON text, or if
+/// memory runs out.
 pub fn read_patch(alloc: Global, patch: &[u8]) -> Result<Rc<Doc>, Failure>
     ensures ok { IfOk result (λ d. IsInput usual_rules patch.now
         (doc_tree d.value (doc_root d.value))) }
@@ -33,8 +34,8 @@ pub fn read_patch(alloc: Global, patch: &[u8]) -> Result<Rc<Doc>, Failure>
     }
 }
 
-/// Returns the value of a text. Fails with `Failure::Text` if the bytes are no JSON text, or if
-/// memory runs out.
+/// Reads a JSON text by the rules and returns its value. Fails with [`Failure::Text`] if the bytes
+/// are not a JSON text by them, or if memory runs out.
 pub fn value_from_text(alloc: Global, text: &[u8], rules: Rules) -> Result<Value, Failure>
     ensures ok { IfOk result (λ v. IsInput (rules_of rules) text.now (tree_of v)) }
     ensures failed { IfErr result (IsTextFailure (rules_of rules) text.now) }
@@ -63,7 +64,8 @@ pub fn read_target(alloc: Global, target: &[u8], rules: Rules) -> Result<Value, 
     }
 }
 
-/// Returns the text of a value. Fails with `Failure::Text` of `NoMemory` if memory runs out.
+/// Returns a buffer with the JSON text of a value in this style. Fails with [`Failure::Text`] of
+/// `NoMemory` if memory runs out.
 pub fn value_to_text(
     alloc: Global,
     value: &Value,

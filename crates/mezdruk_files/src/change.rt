@@ -5,7 +5,7 @@ use crate::change_error::ChangeError;
 use json_value::Value;
 use std::alloc::Global;
 
-/// A change of values, which applies to a value or fails.
+/// A change of a value, such as a list of edits or a patch. It either applies to a value or fails.
 ///
 /// ```
 /// use mezdruk_files::{ValueChange, Unchanged};
@@ -22,21 +22,22 @@ pub trait ValueChange {
     ghost use Rattle.mezdruk_files.specs.Sentences.{is_lower_case};
     ghost use Rattle.mezdruk_files.specs.declared.change_error.ChangeError.{ChangeError};
 
-    /// What becomes of a tree: the changed tree, or why the change does not apply to it.
+    /// The tree that the change makes of a tree, or why it does not apply to it.
     ghost changed: { Self → Tree → Result Tree ChangeError };
 
-    /// Changes the value. Fails if the change does not apply, and with `NoMemory` if memory runs
-    /// out.
+    /// Changes `value`. Fails if the change does not apply to it, and with `NoMemory` if memory
+    /// runs out. After an error, `value` may be changed in part.
     fn apply(&self, alloc: Global, value: &mut Value) -> Result<(), ChangeError>
         ensures ok { OnOk result (changed self.now (tree_of value.old) ≡ Ok (tree_of value.new)) }
         ensures err { IfErr result (ChangeFails (changed self.now (tree_of value.old))) };
 
-    /// Returns the word for a part of the change in reports, as `edit`: lower case letters alone.
+    /// Returns the word by which reports of errors call a part of the change, such as `edit` or
+    /// `operation`. It consists of lower case letters.
     fn part_name(&self) -> &'static str
         ensures word { is_lower_case result.now ≡ true };
 }
 
-/// The change that leaves each value as it is.
+/// The change that leaves each value as it is. It never fails.
 ///
 /// ```
 /// use mezdruk_files::{ValueChange, Unchanged};

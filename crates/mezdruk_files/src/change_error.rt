@@ -3,7 +3,7 @@ ghost use Rattle.std.specs.Prelude.{◌≡◌};
 ghost use Rattle.mezdruk_files.specs.Reports.{change_name};
 ghost use Rattle.mezdruk_files.specs.Sentences.{change_sentence};
 
-/// The kind of a [`ChangeError`].
+/// The kinds of a [`ChangeError`].
 ///
 /// ```
 /// use mezdruk_files::ChangeCode;
@@ -13,18 +13,19 @@ ghost use Rattle.mezdruk_files.specs.Sentences.{change_sentence};
 pub enum ChangeCode {
     /// Memory ran out.
     NoMemory,
-    /// A key or an index is not there.
+    /// A key or an index of a path or a pointer is not in the value.
     NotFound,
-    /// A key meets no object, or an index no array.
+    /// A path leads by a key into a value that is no object, or by an index into one that is no
+    /// array.
     TypeUnmatched,
-    /// The patch is not an array of operations (RFC 6902).
+    /// The patch is not an array of valid operations (RFC 6902, section 4).
     BadPatch,
-    /// The operation `test` found another value.
+    /// An operation `test` found another value than the expected one (RFC 6902, section 4.6).
     TestFailed,
 }
 
 impl ChangeCode {
-    /// Returns the name of the code.
+    /// Returns the name of the code, such as `NotFound`.
     pub fn name(self) -> &'static str
         ensures { result.now ≡ change_name self }
     {
@@ -37,7 +38,7 @@ impl ChangeCode {
         }
     }
 
-    /// Returns a sentence about the error.
+    /// Returns what the report of an error of this kind says.
     pub(crate) fn sentence(self) -> &'static str
         ensures { result.now ≡ change_sentence self }
     {
@@ -62,7 +63,7 @@ impl ChangeCode {
 pub struct ChangeError {
     /// The kind of the error.
     pub code: ChangeCode,
-    /// The number of the edit or the operation that does not apply, counted from 0; `None` if
-    /// memory ran out, or if the change has no parts.
+    /// The index of the edit or the operation that does not apply, counted from 0. `None` if memory
+    /// ran out, or if the change has no parts.
     pub number: Option<u32>,
 }

@@ -18,7 +18,7 @@ use std::rc::Rc;
 /// The greatest number of bytes of a document that is read.
 pub(crate) const MAX_BYTES: usize = 4_294_967_295;
 
-/// A document in memory: the name by which errors are reported, and its bytes.
+/// A document in memory: its bytes, and the name by which reports of errors call it.
 ///
 /// ```
 /// use mezdruk_files::NamedDocument;
@@ -27,14 +27,15 @@ pub(crate) const MAX_BYTES: usize = 4_294_967_295;
 /// ```
 #[derive(Drop)]
 pub struct NamedDocument {
-    /// The name by which errors are reported.
+    /// The name by which reports of errors call the document, such as that of its file.
     pub name: String,
-    /// The bytes; none if they could not be read.
+    /// The bytes of the document; `None` if they could not be read.
     pub bytes: Option<Vec<u8>>,
 }
 
 impl NamedDocument {
-    /// Copies a name and bytes. Fails with `NoMemory` if memory runs out.
+    /// Creates a document by copying its name and its bytes. Fails with `NoMemory` if memory runs
+    /// out.
     pub fn new(alloc: Global, name: &str, bytes: &[u8]) -> Result<NamedDocument>
         ensures name { IfOk result (λ d. string_bytes d.name ≡ name.now) }
         ensures bytes { IfOk result (λ d. document_bytes d ≡ Some bytes.now) }
@@ -47,9 +48,9 @@ impl NamedDocument {
     }
 }
 
-/// Reads the document of bytes by the rules (RFC 8259). Fails with `TooLarge` past 4,294,967,295
-/// bytes, `InvalidUTF8` and each fault of the grammar by the rules at its offset, and `NoMemory`
-/// if memory runs out.
+/// Reads the bytes as a JSON text (RFC 8259) by the rules and returns its document. Fails with
+/// `TooLarge` if there are more than 4,294,967,295 bytes, with `InvalidUTF8` or an error of the
+/// grammar or the rules at its offset, and with `NoMemory` if memory runs out.
 pub(crate) fn read_bytes(alloc: Global, bytes: &[u8], rules: Rules) -> Result<Rc<Doc>>
     ensures ok { IfOk result (λ d. IsInput (rules_of rules) bytes.now
         (doc_tree d.value (doc_root d.value))) }

@@ -6,7 +6,7 @@ use crate::change_error::ChangeError;
 use json_command::Status;
 use json_io::Error;
 
-/// Why a document, or a part of it, is not printed.
+/// Why a document, a line of it or a value of it is not printed.
 ///
 /// ```
 /// use mezdruk_files::{ChangeCode, ChangeError, DocumentError};
@@ -18,14 +18,14 @@ use json_io::Error;
 /// ```
 #[derive(Clone, Copy, Debug, PartialEq, Eq)]
 pub enum DocumentError {
-    /// It could not be read, or it is not valid.
+    /// It could not be read, or it is not a valid JSON text.
     Input(Error),
-    /// The change does not apply to its value.
+    /// It is valid, and the change does not apply to its value.
     Change(ChangeError),
 }
 
 impl DocumentError {
-    /// Returns the number of the status of the error.
+    /// Returns the number of the status that the error leads to.
     pub(crate) fn status(&self) -> u8
         ensures { result ≡ document_error_status self.now }
     {

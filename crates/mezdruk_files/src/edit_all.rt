@@ -13,7 +13,8 @@ use json_value::{Edit, Value};
 use reshape::apply_all;
 use std::alloc::Global;
 
-/// The change by edits, which apply in turn.
+/// The change by a list of edits, which apply in order. Each applies to the result of those before
+/// it.
 ///
 /// ```
 /// use mezdruk_files::{ValueChange, EditAll};
@@ -33,7 +34,7 @@ pub struct EditAll<'a> {
 impl<'a> EditAll<'a> {
     ghost use Rattle.mezdruk_files.specs.EditLists.{listed_edits};
 
-    /// Returns the change by these edits; `None` if there are 4,294,967,296 or more.
+    /// Creates the change by these edits. Returns `None` if there are more than 4,294,967,295.
     pub fn new(edits: &'a [Edit]) -> Option<EditAll<'a>>
         ensures some { IsSome result ↔ (length edits.now < 2 ^ 32) }
         ensures edits { IfSome result (λ change. listed_edits change ≡ map edit_of edits.now) }

@@ -16,8 +16,9 @@ use json_patch::Pointer;
 use json_value::{Edit, Path, PointerNode, Value};
 use std::alloc::Global;
 
-/// The change by one edit at the place that a JSON Pointer references (RFC 6901), whatever the path
-/// of the edit. A token is an index in an array and a key in an object.
+/// The change by one edit where a JSON Pointer (RFC 6901) leads. The path that the edit itself has
+/// is ignored. A token of the pointer is an index where it meets an array, and a key where it meets
+/// an object.
 ///
 /// ```
 /// use mezdruk_files::{ValueChange, EditAt};
@@ -32,9 +33,9 @@ use std::alloc::Global;
 /// ```
 #[derive(Clone, Copy, Drop)]
 pub struct EditAt<'a> {
-    /// The pointer.
+    /// Where the edit applies.
     pub pointer: &'a Pointer,
-    /// The edit.
+    /// The edit. Its own path is ignored.
     pub edit: &'a Edit,
 }
 
@@ -52,7 +53,7 @@ fn copy_path_step(alloc: Global, step: &PointerNode) -> json_io::Result<PointerN
     }
 }
 
-// Copies an edit to another path.
+// Returns a copy of an edit with another path.
 fn copy_at(alloc: Global, edit: &Edit, path: Path) -> json_io::Result<Edit>
     ensures same { IfOk result (λ copy. edit_of copy ≡ edit_at (path_steps path) edit.now) }
     ensures only { OnlyNoMemory result }
@@ -78,7 +79,7 @@ fn copy_at(alloc: Global, edit: &Edit, path: Path) -> json_io::Result<Edit>
     }
 }
 
-// Applies an edit at the place of a pointer.
+// Applies an edit where a pointer leads.
 fn apply_at(alloc: Global, pointer: &Pointer, edit: &Edit, value: &mut Value) -> json_io::Result<()>
     ensures ok { OnOk result (Makes (edited_at (pointer_tokens pointer.now) edit.now
         (tree_of value.old)) value.new) }

@@ -17,7 +17,7 @@ use json_layout::Style;
 use std::alloc::Global;
 use std::slice;
 
-/// The text of a document that was edited, and the status.
+/// What [`edit_document`] returns: the text of the edited document, and the status.
 ///
 /// ```
 /// use mezdruk_files::{NamedDocument, Job, Unchanged, edit_document};
@@ -30,9 +30,10 @@ use std::slice;
 /// ```
 #[derive(Drop)]
 pub struct EditedText {
-    /// The status, as [`print_documents`] returns it.
+    /// The status, as [`print_documents`] returns it: 0 if the document was edited, and else a
+    /// number that says why not.
     pub status: u8,
-    /// The text; of no use if the status is not 0.
+    /// The edited text, if the status is 0. Else it has no meaning.
     pub text: Vec<u8>,
 }
 
@@ -81,10 +82,14 @@ fn with_end_of(bytes: &[u8], output: Vec<u8>) -> Vec<u8>
     text
 }
 
-/// Returns the text of the document after the change of the job, in the layout that the document
-/// has, whatever the style of the job: the indent is that of [`find_style`], members are sorted if
-/// the style of the job sorts them, and a newline is at the end if the document ends with one.
-/// Reports each error. The status is that of [`print_documents`].
+/// Applies the change of the job to a document, and returns the text of the changed value in the
+/// layout that the document has. The indent is the one that [`find_style`] finds, and a newline
+/// ends the text if one ends the document. Members are sorted if the style of the job sorts them;
+/// the rest of that style, and `raw`, are ignored.
+///
+/// If the document is not valid, could not be read, or the change does not apply to it, the error
+/// is reported to `errs`, and the status of the result says so. It is the one that
+/// [`print_documents`] returns.
 ///
 /// ```
 /// use mezdruk_files::{NamedDocument, EditAll, Job, edit_document};

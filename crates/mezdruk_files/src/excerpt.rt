@@ -113,8 +113,8 @@ fn push_lines(text: &mut Vec<u8>, before: &[u8], after: &[u8]) -> Result<()>
     Ok(())
 }
 
-/// Appends the line at an offset, cut to 76 bytes, and a caret under the byte there. Fails with
-/// `NoMemory` if memory runs out.
+/// Appends the line of `bytes` at an offset, cut to 76 bytes, and below it a caret under the byte
+/// at the offset. Fails with `NoMemory` if memory runs out.
 pub(crate) fn push_excerpt(text: &mut Vec<u8>, bytes: &[u8], offset: usize) -> Result<()>
     requires { offset ≤ length bytes.now }
     ensures ok { OnOk result ((excerpt : List ℕ) × IsExcerpt bytes.now offset excerpt

@@ -27,7 +27,8 @@ fn gap_before_first(bytes: &[u8]) -> &[u8]
     }
 }
 
-// Returns the same of bytes that begin with the bracket, and nothing if they begin with none.
+// Returns the whitespace after the bracket that the bytes begin with; nothing if they begin with
+// none.
 fn gap_after_bracket(bytes: &[u8]) -> &[u8]
     ensures { result.now ≡ gap_after_bracket bytes.now }
 {
@@ -70,8 +71,9 @@ fn find_indent(bytes: &[u8]) -> Option<&str>
     }
 }
 
-/// Returns the style that a text has, sorted or not: its indent is the whitespace before the first
-/// member or element of the value, if that is on a line of its own. Else the style is compact.
+/// Returns the style that the JSON text in `bytes` has. If the first element or member of its value
+/// is on a line of its own, the indent is the whitespace before it on that line. Else the style is
+/// compact. The style sorts members if `sorted` is true.
 ///
 /// ```
 /// use mezdruk_files::find_style;
@@ -87,7 +89,7 @@ pub fn find_style(bytes: &[u8], sorted: bool) -> Style<'_>
     }
 }
 
-/// Returns whether the last byte is a newline.
+/// Returns whether the bytes end with a newline.
 pub(crate) fn ends_line(bytes: &[u8]) -> bool
     ensures { result ≡ line_ends bytes.now }
 {

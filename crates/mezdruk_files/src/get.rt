@@ -15,8 +15,8 @@ use json_patch::Pointer;
 use json_value::{Path, Value, View};
 use std::alloc::Global;
 
-/// The change to the value that a JSON Pointer references (RFC 6901). It fails with `NotFound` if
-/// the pointer references nothing.
+/// The change that replaces a value by the part of it that a JSON Pointer (RFC 6901) references. It
+/// fails with `NotFound` if the pointer references nothing.
 ///
 /// ```
 /// use mezdruk_files::{ValueChange, ChangeCode, GetPointer};
@@ -32,12 +32,12 @@ use std::alloc::Global;
 /// ```
 #[derive(Clone, Copy, Drop)]
 pub struct GetPointer<'a> {
-    /// The pointer.
+    /// The pointer to the part that remains.
     pub pointer: &'a Pointer,
 }
 
-/// The change to the value at the end of a path. It fails with `NotFound` where the path leads
-/// nowhere.
+/// The change that replaces a value by the part of it that a path leads to. It fails with
+/// `NotFound` if the path leads to nothing.
 ///
 /// ```
 /// use mezdruk_files::{ValueChange, GetPath};
@@ -50,11 +50,11 @@ pub struct GetPointer<'a> {
 /// ```
 #[derive(Clone, Copy, Drop)]
 pub struct GetPath<'a> {
-    /// The path.
+    /// The path to the part that remains.
     pub path: &'a Path,
 }
 
-// Returns a value of the tree that was found, or `NotFound` if there is none.
+// Returns a value of the view that was found, or `NotFound` if there is none.
 fn value_found(alloc: Global, found: Option<View<'_>>) -> Result<Value, ChangeError>
     ensures ok { IfOk result (λ value.
         ok_or (option_map seen found.entry) not_there ≡ Ok (tree_of value)) }

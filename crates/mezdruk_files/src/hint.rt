@@ -148,7 +148,7 @@ fn hint_of_input(part: DocumentPart<'_>, error: &Error) -> Option<&'static str>
     hint_at(part, error.code, offset)
 }
 
-/// Returns a hint at the usual cause of the error, if there is one.
+/// Returns a sentence about the usual cause of an error, if it has one.
 pub(crate) fn hint_of(part: DocumentPart<'_>, error: &DocumentError) -> Option<&'static str>
     ensures { HintFits error.now (option_map (λ s. s.now) result) }
 {

@@ -23,7 +23,7 @@ use json_value::Value;
 use std::alloc::Global;
 use std::rc::Rc;
 
-/// What the bytes of each document are.
+/// The form that the bytes of each document have.
 ///
 /// ```
 /// use mezdruk_files::{InputForm, Job, Unchanged};
@@ -35,15 +35,15 @@ use std::rc::Rc;
 pub enum InputForm {
     /// One JSON text.
     One,
-    /// A JSON text on each line. A line that has only whitespace is skipped.
+    /// A JSON text on each line. A line of whitespace alone is skipped.
     Lines,
-    /// Values one after another, which whitespace may separate. They are read by the usual rules,
-    /// up to the first fault.
+    /// JSON values one after another, with or without whitespace between them. They are read by the
+    /// usual rules (at most 254 levels, keys may repeat), up to the first error.
     Stream,
 }
 
-/// What is done with each document: how it is read, the change of its value, and how the value is
-/// printed.
+/// What [`print_documents`](crate::print_documents) does with each document: how it is read, how
+/// its value is changed, and how the changed value is printed.
 ///
 /// ```
 /// use mezdruk_files::{Job, Unchanged};
@@ -55,15 +55,16 @@ pub enum InputForm {
 /// ```
 #[derive(Drop)]
 pub struct Job<'a, C> {
-    /// The change of the value.
+    /// The change that is applied to each value.
     pub change: C,
-    /// The style in which it is printed; `None` if it is only checked.
+    /// The style in which each changed value is printed; `None` if it is not printed, and documents
+    /// are only checked.
     pub style: Option<Style<'a>>,
-    /// The rules by which it is read.
+    /// The rules by which each document is read, unless `input` is [`InputForm::Stream`].
     pub rules: Rules,
-    /// What the bytes of the document are.
+    /// The form that the bytes of each document have.
     pub input: InputForm,
-    /// Whether the content of a string is printed in place of its text.
+    /// Whether a value that is a string is printed as its content, without quotes and escapes.
     pub raw: bool,
     /// Whether each element of the changed array is printed on a line of its own. Nothing is printed
     /// then of a value that is no array.
@@ -71,7 +72,8 @@ pub struct Job<'a, C> {
 }
 
 impl<'a, C> Job<'a, C> {
-    /// Returns the job over documents of one JSON text each, whose values are printed as texts.
+    /// Creates a job over documents of one JSON text each. Strings are printed as JSON texts;
+    /// `style` is `None` if documents are only checked.
     pub fn new(change: C, style: Option<Style<'a>>, rules: Rules) -> Job<'a, C>
         ensures change { result.change ≡ change }
         ensures style { result.style ≡ style.entry }
@@ -156,8 +158,8 @@ fn changed_value<C: ValueChange>(
     }
 }
 
-/// Changes the value of a document and prints its line, or returns why the change does not apply.
-/// Fails with `Io` at `Writing` if the sink fails, and with `NoMemory` if memory runs out.
+/// Changes the value of a document and prints it with a newline, or returns why the change does not
+/// apply. Fails with `Io` at `Writing` if the sink fails, and with `NoMemory` if memory runs out.
 pub(crate) fn print_changed<C: ValueChange, K: Sink>(
     alloc: Global,
     doc: &Rc<Doc>,
@@ -181,9 +183,9 @@ pub(crate) fn print_changed<C: ValueChange, K: Sink>(
     }
 }
 
-/// Reads the document of the bytes, changes its value and prints its line, or returns the error
-/// that the bytes have. Fails with `Io` at `Writing` if the sink fails, and with `NoMemory` if
-/// memory runs out.
+/// Reads the bytes as a document, changes its value and prints it with a newline, or returns why
+/// the document is not valid or the change does not apply. Fails with `Io` at `Writing` if the sink
+/// fails, and with `NoMemory` if memory runs out.
 pub(crate) fn print_bytes<C: ValueChange, K: Sink>(
     alloc: Global,
     bytes: &[u8],

@@ -1,5 +1,5 @@
-//! What the program `mezdruk` does with files: documents in memory are read, changed and printed,
-//! each with a newline after it, and the errors of those that are not valid are reported.
+//! What the program `mezdruk` does with files, as functions: documents in memory are read, changed
+//! and printed with a newline after each. The errors of those that are not valid are reported.
 //!
 //! ```
 //! use mezdruk_files::{NamedDocument, Job, Unchanged, print_documents};

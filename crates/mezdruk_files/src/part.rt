@@ -22,15 +22,15 @@ pub(crate) enum Scope {
 pub(crate) struct DocumentPart<'a> {
     /// The name of the document.
     pub name: &'a str,
-    /// The bytes in which places are counted.
+    /// The bytes in which the offset of an error counts.
     pub bytes: &'a [u8],
-    /// The number of lines before the bytes.
+    /// The number of lines of the document before the bytes.
     pub before: usize,
     /// What the bytes are.
     pub scope: Scope,
 }
 
-/// Returns the part that is a whole document.
+/// Returns a whole document as its only part.
 pub(crate) fn whole_part<'a>(name: &'a str, bytes: &'a [u8]) -> DocumentPart<'a>
     ensures { part_view result ≡ spec_whole_part name.now bytes.now }
 {
@@ -42,7 +42,7 @@ pub(crate) fn whole_part<'a>(name: &'a str, bytes: &'a [u8]) -> DocumentPart<'a>
     }
 }
 
-/// Returns the first line, without its newline, and the bytes after it.
+/// Returns the first line, without its newline, and the bytes after that newline.
 pub(crate) fn split_line(bytes: &[u8]) -> (&[u8], &[u8])
     requires { 0 < length bytes.now }
     ensures line { lines_of bytes.now ≡ result.0.now ∷ lines_of result.1.now }
@@ -55,7 +55,7 @@ pub(crate) fn split_line(bytes: &[u8]) -> (&[u8], &[u8])
     }
 }
 
-/// Returns whether a line has only whitespace.
+/// Returns whether a line is whitespace alone.
 pub(crate) fn is_blank(line: &[u8]) -> bool
     ensures { BlankTest line.now result }
 {

@@ -15,7 +15,7 @@ use json_patch::{PatchCode, PatchError, apply_merge, apply_patch};
 use json_value::{Value, View};
 use std::alloc::Global;
 
-/// The change by a JSON Patch (RFC 6902).
+/// The change by a JSON Patch (RFC 6902), whose operations apply in order.
 ///
 /// ```
 /// use json_doc::read_document;
@@ -63,8 +63,9 @@ fn has_few_operations(patch: View<'_>) -> bool
 impl<'a> ApplyPatch<'a> {
     ghost use Rattle.mezdruk_files.specs.Patches.{patch_tree};
 
-    /// Returns the change by this patch; `None` if it has 4,294,967,296 or more operations. One
-    /// that is not an array of operations applies to no value.
+    /// Creates the change by this JSON Patch. Returns `None` if it has more than 4,294,967,295
+    /// operations. A value that is not an array of operations is accepted here, but the change then
+    /// applies to no value.
     pub fn new(patch: View<'a>) -> Option<ApplyPatch<'a>>
         ensures some { IsSome result ↔ (length (elements (seen patch.entry)) < 2 ^ 32) }
         ensures patch { IfSome result (λ change. patch_tree change ≡ seen patch.entry) }
@@ -80,7 +81,7 @@ impl<'a> ApplyPatch<'a> {
 impl<'a> ApplyMerge<'a> {
     ghost use Rattle.mezdruk_files.specs.Patches.{merge_tree};
 
-    /// Returns the change by this merge patch.
+    /// Creates the change by this merge patch.
     pub fn new(patch: View<'a>) -> ApplyMerge<'a>
         ensures { merge_tree result ≡ seen patch.entry }
     {

@@ -291,8 +291,9 @@ fn document_headline(
     }
 }
 
-/// Returns the report of an error of a part of a document. The parts of the change have this name.
-/// Fails with `NoMemory` if memory runs out.
+/// Returns the report of an error of a part of a document: a line that says what is wrong and
+/// where, the line of the document with a caret, and a hint. `part_name` is the word for a part of
+/// the change. Fails with `NoMemory` if memory runs out.
 pub(crate) fn document_report(
     alloc: Global,
     part: DocumentPart<'_>,
@@ -312,9 +313,9 @@ pub(crate) fn document_report(
     Ok(text)
 }
 
-/// Returns the first line of the report of a file of this name that could not be read or written,
-/// with the reason of the system: `NAME: reason (Io)` and a newline. Fails with `NoMemory` if
-/// memory runs out.
+/// Returns the report of a file that could not be read or written: the line `NAME: REASON (Io)` and
+/// a newline. `name` is that of the file, and `reason` is what the system says. Fails with
+/// `NoMemory` if memory runs out.
 ///
 /// ```
 /// use mezdruk_files::file_report;

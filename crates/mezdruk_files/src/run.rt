@@ -384,13 +384,18 @@ fn report_unless_muted<E: Sink>(errs: &mut E, muted: bool, error: &Error)
     }
 }
 
-/// Prints each document that is valid and to which the change applies: the text of the changed
-/// value in the style of the job, and a newline, or nothing if the job has no style. Reports the
-/// error of each other one, and goes on. Where the job reads lines, does so with each line.
+/// Reads each document, applies the change of the job to its value, and prints the changed value
+/// and a newline to `sink`, in the style of the job. Prints nothing if the job has no style. The
+/// job may also read each line of a document, or each value of a stream, in place of the whole
+/// document.
 ///
-/// Returns the greatest status of them: 0 if all are printed, 1 if one is not valid, 3 if
-/// a change does not apply to one, 4 if one could not be read. Returns 5 if writing fails, and
-/// 6 if memory runs out; the sink has a prefix of the output then, and the error of the run is
+/// Where a document is not valid, could not be read or the change does not apply to it, its error
+/// is reported to `errs`, and the next document follows. After a report could not be written, no
+/// further ones are.
+///
+/// Returns the greatest status that a document has: 0 if all is done, 1 if one is not valid, 3 if
+/// the change does not apply to one, and 4 if one could not be read. Returns 5 if writing fails,
+/// and 6 if memory runs out. The run ends then: `sink` has a prefix of the output, and the error is
 /// reported.
 ///
 /// ```

@@ -14,21 +14,21 @@ use json_text::Parser;
 use std::alloc::Global;
 use std::rc::Rc;
 
-/// A place in the text of a document, and how many values precede it.
+/// An offset in the text of a document, and how many values precede it.
 #[derive(Clone, Copy)]
 pub(crate) struct StreamPlace<'a> {
     /// The name of the document.
     pub(crate) name: &'a str,
     /// The text of the document.
     pub(crate) text: &'a str,
-    /// The offset of the place.
+    /// The offset in bytes.
     pub(crate) offset: usize,
-    /// The number of values before it.
+    /// The number of values before the offset.
     pub(crate) number: usize,
 }
 
-/// Returns the text that the bytes are. Fails with `TooLarge` past 4,294,967,295 bytes, and with
-/// `InvalidUTF8` at the first byte that is not UTF-8.
+/// Returns the bytes as a string. Fails with `TooLarge` if there are more than 4,294,967,295, and
+/// with `InvalidUTF8` at the first byte that is not UTF-8.
 pub(crate) fn document_text(bytes: &[u8]) -> Result<&str>
     ensures ok { IfOk result (λ text. text.now ≡ bytes.now) }
     ensures utf8 { IfOk result (λ text. IsUtf8 bytes.now) }
@@ -44,8 +44,9 @@ pub(crate) fn document_text(bytes: &[u8]) -> Result<&str>
     check_utf8(bytes)
 }
 
-/// Reads the next value, by the usual rules. Returns its document and the offset after it. Fails
-/// with each fault of what follows as a value, and with `NoMemory` if memory runs out.
+/// Reads the value at an offset by the usual rules, and returns its document and the offset after
+/// it. Fails with the error of the grammar at its offset if no valid value is there, and with
+/// `NoMemory` if memory runs out.
 pub(crate) fn read_value_at(alloc: Global, text: &str, offset: usize) -> Result<(Rc<Doc>, usize)>
     requires { IsCharBoundary text.now offset }
     ensures ok { IfOk result (λ r. ReadsAt text.now offset
@@ -60,7 +61,7 @@ pub(crate) fn read_value_at(alloc: Global, text: &str, offset: usize) -> Result<
     }
 }
 
-/// Returns the part that is the value at a place.
+/// Returns the value at an offset as a part of its document.
 pub(crate) fn value_part(place: StreamPlace<'_>) -> DocumentPart<'_>
     ensures { part_view result
         ≡ spec_value_part place.entry.name.now place.entry.text.now place.entry.number }

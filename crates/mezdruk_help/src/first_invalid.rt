@@ -13,31 +13,32 @@ use std::alloc::Global;
 /// Why an argument does not fit those before it.
 #[derive(Clone, Copy, Debug)]
 pub(crate) enum InvalidReason {
-    /// The program takes no such option, or no operand.
+    /// The program has no such option, or no operand.
     Unknown,
-    /// The argument of this index excludes it.
+    /// It cannot be given together with the argument of this index.
     Excluded(usize),
-    /// The option takes another value.
+    /// It is an option whose value must be of this form.
     Value(OptionValue),
     /// The operand, or the value of the option, is no JSON text.
     NoText,
 }
 
-/// An argument that does not fit those before it.
+/// An argument that does not fit those before it: its index, and what is wrong with it.
 #[derive(Clone, Copy, Debug)]
 pub(crate) struct Invalid {
     pub index: usize,
     pub problem: InvalidReason,
 }
 
-/// Whether an argument is an option.
+/// Returns whether an argument is an option: it begins with a hyphen.
 pub(crate) fn is_option(word: &str) -> bool
     ensures { result ≡ is_option word.now }
 {
     word.as_bytes().starts_with(b"-")
 }
 
-/// Returns the text of an option before the first equals sign, and the text after it.
+/// Splits an option at its first equals sign into its name and its value. The value is empty if
+/// there is no equals sign.
 pub(crate) fn split_option(word: &str) -> (&str, &str)
     ensures name { result.0.now ≡ name_before_equals word.now }
     ensures value { result.1.now ≡ value_after_equals word.now }
@@ -60,7 +61,7 @@ fn option_named<'a>(options: &'a [OptionForm], name: &str) -> Option<OptionForm>
 }
 
 impl Usage {
-    /// Returns the option that an argument names.
+    /// Returns the option of the program that an argument names, if it names one.
     pub(crate) fn option_of(&self, word: &str) -> Option<OptionForm>
         ensures { result ≡ option_named self.now.options.now (name_before_equals word.now) }
     {
@@ -68,8 +69,7 @@ impl Usage {
         option_named(self.options, name)
     }
 
-    /// Returns the group of an argument; `None` where the program takes no such option, or no
-    /// operand.
+    /// Returns the group of an argument; `None` if the program has no such option, or no operand.
     pub(crate) fn group_of(&self, word: &str) -> Option<u8>
         ensures { result ≡ group_of self.now word.now }
     {
@@ -192,7 +192,8 @@ fn problem_at(
     }
 }
 
-/// Returns the first argument that does not fit those before it, where there is one.
+/// Returns the first argument that does not fit those before it, if there is one. Fails with
+/// `NoMemory` if memory runs out.
 pub(crate) fn first_invalid(alloc: Global, usage: &Usage, words: &Words) -> Result<Option<Invalid>>
     ensures first { IfOk result (λ o. IfSome o (λ v. FirstInvalid usage.now words.now v.index)) }
     ensures none { IfOk result (λ o. IfNone o (AllFit usage.now words.now)) }

@@ -144,8 +144,8 @@ fn element_report(
     Ok(Some(text))
 }
 
-/// Returns what is wrong with the value of an argument that is a JSON text, by its form. Fails if
-/// memory runs out.
+/// Returns what is wrong with the form of an argument's JSON value; `None` if it has the form.
+/// Fails if memory runs out.
 pub(crate) fn form_fault(
     alloc: Global,
     argument: TextArgument,

@@ -46,14 +46,14 @@ Status:
 /// What `--version` or `-V` alone prints.
 const VERSION: &str = "mezdruk history 0.1.0\nRattle logic dac8208d650f15bf\n";
 
-/// What the program says of itself.
+/// The help and the version of the program `mezdruk history`.
 pub const ABOUT_HISTORY: About = About {
     help: HELP,
     version: VERSION,
     hint: "Run `mezdruk history --help` for usage.\n",
 };
 
-/// What the program takes on its command line.
+/// What the program `mezdruk history` accepts on its command line.
 pub const USAGE_HISTORY: Usage = Usage {
     program: "mezdruk history",
     about: ABOUT_HISTORY,

@@ -45,14 +45,14 @@ Status:
 /// What `--version` or `-V` alone prints.
 const VERSION: &str = "json_patch 0.1.0\nRattle logic dac8208d650f15bf\n";
 
-/// What the program says of itself.
+/// The help and the version of the program `json_patch`.
 pub const ABOUT_JSON_PATCH: About = About {
     help: HELP,
     version: VERSION,
     hint: "Run `json_patch --help` for usage.\n",
 };
 
-/// What the program takes on its command line.
+/// What the program `json_patch` accepts on its command line.
 pub const USAGE_JSON_PATCH: Usage = Usage {
     program: "json_patch",
     about: ABOUT_JSON_PATCH,

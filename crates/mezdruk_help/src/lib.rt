@@ -1,6 +1,6 @@
-//! What each program says of itself: its help, its version, what it takes on its command line, and
-//! which argument of an invalid list is wrong. A program that `mezdruk` hands its arguments on to has
-//! its texts here, since both print them.
+//! What each program says of itself (its help and its version), what it accepts on its command
+//! line, and the report of the argument that makes a list of arguments invalid. The texts of a
+//! program that `mezdruk` runs are here too, since both print them.
 //!
 //! ```
 //! use mezdruk_help::ABOUT_LINES;

@@ -48,14 +48,14 @@ Status:
 /// What `--version` or `-V` alone prints.
 const VERSION: &str = "mezdruk lines 0.1.0\nRattle logic dac8208d650f15bf\n";
 
-/// What the program says of itself.
+/// The help and the version of the program `mezdruk lines`.
 pub const ABOUT_LINES: About = About {
     help: HELP,
     version: VERSION,
     hint: "Run `mezdruk lines --help` for usage.\n",
 };
 
-/// What the program takes on its command line.
+/// What the program `mezdruk lines` accepts on its command line.
 pub const USAGE_LINES: Usage = Usage {
     program: "mezdruk lines",
     about: ABOUT_LINES,

@@ -80,7 +80,7 @@ Status: the greatest of those of the documents
 /// What `--version` alone prints.
 const VERSION: &str = "mezdruk 0.1.0\nRattle logic dac8208d650f15bf\n";
 
-/// What the program says of itself.
+/// The help and the version of the program `mezdruk`.
 pub const ABOUT_MEZDRUK: About = About {
     help: HELP,
     version: VERSION,

@@ -8,13 +8,13 @@ use json_io::{ErrorCode, Words, fault_text};
 use std::alloc::{AllocError, Global};
 use strsim::levenshtein;
 
-/// The length in bytes up to which an argument is shown.
+/// The greatest length in bytes of an argument that a report shows.
 pub(crate) const MAX_SHOWN: usize = 80;
 
-/// The length in bytes up to which a text is read.
+/// The greatest number of bytes of a text that is read.
 const MAX_BYTES: usize = 4_294_967_295;
 
-/// What is said before and after the name of an argument.
+/// What a report says before and after the name of an argument.
 #[derive(Drop)]
 pub(crate) struct Reason {
     pub before: &'static str,
@@ -22,7 +22,7 @@ pub(crate) struct Reason {
 }
 
 impl Reason {
-    /// Returns the reason that is said after the name.
+    /// Returns the reason that says this after the name of the argument, and nothing before it.
     pub(crate) fn after(after: String) -> Reason {
         Reason { before: "", after }
     }
@@ -108,7 +108,7 @@ impl Usage {
         Ok(reason)
     }
 
-    /// Returns what an argument that is a JSON text is called, and its form.
+    /// Returns the name and the form of an argument that is a JSON text; `None` if it is none.
     pub(crate) fn text_argument(&self, word: &str) -> Option<TextArgument> {
         if !is_option(word) {
             return self.operand;
@@ -138,7 +138,7 @@ impl Usage {
         Ok(reason)
     }
 
-    /// Returns the reason why an argument does not fit those before it.
+    /// Returns what a report says of an argument that does not fit those before it.
     pub(crate) fn reason(
         &self,
         alloc: Global,

@@ -107,10 +107,10 @@ impl Usage {
         Ok(String::new(alloc))
     }
 
-    /// Returns the report of invalid arguments, with a newline: the program, the first argument
-    /// that does not fit those before it, and what is wrong with it; or, where each fits, which one
-    /// has a value of another form or what is missing. Returns an empty text where neither is
-    /// known. Fails with `NoMemory` if memory runs out.
+    /// Returns the report of the invalid arguments `words`, with a newline at the end: the name of
+    /// the program, the first argument that does not fit those before it, and what is wrong with
+    /// it. If each argument fits, the report says whose value does not have its form, or what is
+    /// missing. If neither is known, it is empty. Fails with `NoMemory` if memory runs out.
     pub fn arguments_report(&self, alloc: Global, words: &Words) -> Result<String>
         ensures first { IfOk result (λ s. (i : ℕ) → FirstInvalid self.now words.now i
             → Names self.now.program.now words.now i (string_bytes s)) }
@@ -137,8 +137,9 @@ impl Usage {
         Ok(text)
     }
 
-    /// Explains invalid arguments: where the status is theirs, writes the report of them and then
-    /// the hint at the help, the hint alone if memory runs out; else writes nothing.
+    /// Writes to `errs` why the arguments `words` are invalid, and a hint at the help. Does so only
+    /// if `status`, that of the program's run, is 2, the status of invalid arguments; else writes
+    /// nothing. Writes the hint alone if memory runs out.
     ///
     /// ```
     /// use mezdruk_help::USAGE_RPC;

@@ -54,14 +54,14 @@ Status:
 /// What `--version` or `-V` alone prints.
 const VERSION: &str = "reshape 0.1.0\nRattle logic dac8208d650f15bf\n";
 
-/// What the program says of itself.
+/// The help and the version of the program `reshape`.
 pub const ABOUT_RESHAPE: About = About {
     help: HELP,
     version: VERSION,
     hint: "Run `reshape --help` for usage.\n",
 };
 
-/// What the program takes on its command line.
+/// What the program `reshape` accepts on its command line.
 pub const USAGE_RESHAPE: Usage = Usage {
     program: "reshape",
     about: ABOUT_RESHAPE,

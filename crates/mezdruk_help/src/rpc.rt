@@ -49,14 +49,14 @@ Status:
 /// What `--version` or `-V` alone prints.
 const VERSION: &str = "mezdruk rpc 0.1.0\nRattle logic dac8208d650f15bf\n";
 
-/// What the program says of itself.
+/// The help and the version of the program `mezdruk rpc`.
 pub const ABOUT_RPC: About = About {
     help: HELP,
     version: VERSION,
     hint: "Run `mezdruk rpc --help` for usage.\n",
 };
 
-/// What the program takes on its command line.
+/// What the program `mezdruk rpc` accepts on its command line.
 pub const USAGE_RPC: Usage = Usage {
     program: "mezdruk rpc",
     about: ABOUT_RPC,

@@ -4,57 +4,57 @@ ghost use Rattle.mezdruk_help.specs.Usage.{groups_exclude};
 
 use json_command::About;
 
-/// The form of the value that the JSON text of an argument has.
+/// The form of the JSON value that an argument must have.
 #[derive(Clone, Copy, Debug, PartialEq, Eq)]
 pub enum ArgumentForm {
     /// An array of edits.
     Edits,
-    /// An array of edits, of `["undo"]` and of `["redo"]`.
+    /// An array of edits and of the calls `["undo"]` and `["redo"]`.
     Calls,
-    /// An array of 1 to 64 columns, each a path and a kind.
+    /// An array of 1 to 64 columns, each an array of a path and a kind.
     Columns,
-    /// An array of steps, each a string or an index.
+    /// A path: an array of steps, each a string or an index.
     Path,
     /// Any value.
     Any,
 }
 
-/// A JSON text among the arguments: an operand, or the value of an option.
+/// An argument, or the value of an option, that is a JSON text.
 #[derive(Clone, Copy, Debug, PartialEq, Eq)]
 pub struct TextArgument {
-    /// Its name in the help, as `EDITS`.
+    /// The name by which the help calls it, such as `EDITS`.
     pub name: &'static str,
     /// The form of its value.
     pub form: ArgumentForm,
 }
 
-/// What follows the name of an option.
+/// What follows the name of an option in the same argument.
 #[derive(Clone, Copy, Debug, PartialEq, Eq)]
 pub enum OptionValue {
     /// Nothing, as in `--tabs`.
     Nothing,
-    /// An equals sign and a number from 0 to this one without leading zeros, as in `--indent=4`.
+    /// An equals sign and a number from 0 to this one, without leading zeros, as in `--indent=4`.
     Number(u32),
     /// An equals sign and a JSON text, as in `--has=[]`.
     Text(TextArgument),
 }
 
-/// An option of a program.
+/// One option that a program has.
 #[derive(Clone, Copy, Debug)]
 pub struct OptionForm {
-    /// Its name, as `--indent`.
+    /// The name of the option, such as `--indent`.
     pub name: &'static str,
     /// What follows the name.
     pub value: OptionValue,
-    /// The group of arguments that it belongs to, at most one of which may be given. An option of
-    /// the group `ALONE` is given without any other argument.
+    /// The group of arguments that the option belongs to. At most one argument of a group may be
+    /// given. An option of the group [`ALONE`] must be the only argument.
     pub group: u8,
 }
 
-/// The group of the operand.
+/// The group of arguments to which the operand belongs.
 pub const OPERAND_GROUP: u8 = 0;
 
-/// The group of the options that are given without any other argument.
+/// The group of the options that must be the only argument, such as `--help`.
 pub const ALONE: u8 = 255;
 
 /// `--help`, which each program takes.
@@ -85,17 +85,17 @@ pub(crate) const SHORT_VERSION_OPTION: OptionForm = OptionForm {
     group: ALONE,
 };
 
-/// What is missing where no argument of a group is given.
+/// A group of arguments of which one must be given.
 #[derive(Clone, Copy, Debug)]
 pub struct MissingGroup {
     /// The group.
     pub group: u8,
-    /// The name of what is missing, as `COLUMNS`.
+    /// The name by which a report calls what is missing, such as `COLUMNS`.
     pub name: &'static str,
 }
 
-/// What a program takes on its command line, beside what it says of itself. An argument that begins
-/// with a hyphen is an option, and every other one is an operand.
+/// What a program accepts on its command line. An argument that begins with a hyphen is an option,
+/// and every other one is an operand.
 ///
 /// ```
 /// use mezdruk_help::USAGE_RESHAPE;
@@ -110,17 +110,17 @@ pub struct MissingGroup {
 pub struct Usage {
     /// The name of the program, as a user calls it.
     pub program: &'static str,
-    /// What the program says of itself.
+    /// The help and the version of the program.
     pub about: About,
-    /// Its options.
+    /// The options that the program has.
     pub options: &'static [OptionForm],
-    /// Its operand, if it takes one.
+    /// The operand that the program has, if it has one.
     pub operand: Option<TextArgument>,
-    /// The group of which an argument has to be given, if there is one.
+    /// The group of which one argument must be given, if there is such a group.
     pub missing: Option<MissingGroup>,
 }
 
-/// Whether of two arguments of these groups one excludes the other.
+/// Returns whether arguments of these two groups cannot both be given.
 pub(crate) fn exclude(first: u8, second: u8) -> bool
     ensures { result ≡ groups_exclude first second }
 {

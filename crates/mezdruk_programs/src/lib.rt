@@ -1,5 +1,5 @@
-//! The programs that other commands of `mezdruk` run: which one the first argument names, and how it
-//! runs on the arguments after it.
+//! The programs that `mezdruk` runs in place of a command of its own. The first argument names the
+//! program, and the program gets the arguments after it.
 //!
 //! ```
 //! use json_text::{SliceSource, VecSink, Words};

@@ -31,7 +31,7 @@ impl Program {
         }
     }
 
-    // Returns what the program says of itself, and what it takes on its command line.
+    // Returns the help and version of the program, and what it accepts on its command line.
     fn usage(self) -> Usage {
         match self {
             Program::Reshape => USAGE_RESHAPE,
@@ -54,9 +54,13 @@ fn later_words(alloc: Global, words: &Words) -> Result<Words>
     Ok(later)
 }
 
-/// Runs the program that the first argument names, on the arguments after it, and returns the
-/// status. It prints what the program alone prints, also for `--help`, `--version` and invalid
-/// arguments. Returns `None` if the first argument names no such program.
+/// Runs the program that the first of the arguments `words` names (`reshape`, `lines`, `rpc` or
+/// `history`) on the arguments after it, and returns its status. Reads its input from `source`, and
+/// writes its output to `sink` and its errors to `errs`. These are the same as those of the program
+/// by itself, also for `--help`, `--version` and invalid arguments.
+///
+/// Returns `None`, and reads and writes nothing, if there are no arguments or the first names no
+/// such program. The status is 6 if memory runs out.
 pub fn run_named<S: Source, K: Sink, E: Sink>(
     alloc: Global,
     words: &Words,

@@ -8,8 +8,9 @@ ghost use Rattle.reshape.specs.Asked.{layout_asked, rules_asked};
 use json_layout::Style;
 use json_text::Rules;
 
-/// The style and the rules that the words ask for: compact and not sorted, and the usual rules,
-/// where they say nothing of them.
+/// The style of the output and the rules for the input that the arguments of `reshape` ask for.
+/// Unless they ask for others, the style is compact and not sorted, and the rules allow at most 254
+/// levels and keys that repeat.
 ///
 /// ```
 /// use json_text::Words;
@@ -31,7 +32,8 @@ pub struct AskedStyle {
 }
 
 impl AskedStyle {
-    /// The style of this indent of whitespace, which is sorted or not, and the rules.
+    /// Creates the settings of this indent and these rules. Members are sorted by their keys if
+    /// `sorted` is true. The indent must consist of whitespace; `None` is the compact style.
     pub(crate) fn new(indent: Option<&'static str>, sorted: bool, rules: Rules) -> AskedStyle
         requires { IsIndent (option_map (λ s. s.now) indent) }
         ensures rules { rules_asked result ≡ rules_of rules }
@@ -44,15 +46,16 @@ impl AskedStyle {
         }
     }
 
-    /// Returns the indent, and whether the members of each object are sorted by their keys.
+    /// Returns the style of the output: its indent, and whether the members of each object are
+    /// sorted by their keys.
     pub fn style(&self) -> Style<'static>
         ensures { layout_of result ≡ layout_asked self.now }
     {
         self.style
     }
 
-    /// Returns the rules that the input is read by: at most 254 levels and keys that may repeat,
-    /// unless the words ask for others.
+    /// Returns the rules by which the input is read: the greatest number of levels, and whether the
+    /// keys of each object must differ.
     pub fn rules(&self) -> Rules
         ensures { rules_of result ≡ rules_asked self.now }
     {

@@ -12,7 +12,7 @@ use json_layout::Style;
 use json_text::Rules;
 use json_value::Edit;
 
-/// What the words of the command line ask for.
+/// What the arguments of `reshape` ask for.
 ///
 /// ```
 /// use json_text::Words;
@@ -27,14 +27,16 @@ use json_value::Edit;
 /// ```
 #[derive(Drop)]
 pub enum Asked {
-    /// The text of the tree that is read by these rules, after these edits and in this style.
+    /// The value of the input, edited and printed: the edits apply in order, and the style and the
+    /// rules are those of the [`AskedStyle`].
     Reshape(Edits, AskedStyle),
-    /// A summary of made input of this many records, at most 100,000, and of what is printed of it.
+    /// A summary of generated input of this many records, at most 100,000, and of the text that is
+    /// printed of it. Only `--make=N` asks for this; the input is not read.
     Made(u32),
 }
 
 impl Asked {
-    /// Returns the edits, from the first on. Made input is not edited.
+    /// Returns the edits, in the order in which they apply. Generated input has none.
     pub fn edits(&self) -> &[Edit]
         ensures { map edit_of result.now ≡ (asked_command self.now).es }
     {
@@ -44,7 +46,8 @@ impl Asked {
         }
     }
 
-    /// Returns the style of the text. That of made input is compact and sorted.
+    /// Returns the style of the output. For generated input it is compact, with members sorted by
+    /// their keys.
     pub fn style(&self) -> Style<'static>
         ensures { layout_of result ≡ (asked_command self.now).layout }
     {
@@ -54,7 +57,8 @@ impl Asked {
         }
     }
 
-    /// Returns the rules that the input is read by. Made input is read by the usual ones.
+    /// Returns the rules by which the input is read. For generated input they are the usual ones:
+    /// at most 254 levels, and keys may repeat.
     pub fn rules(&self) -> Rules
         ensures { rules_of result ≡ (asked_command self.now).rules }
     {

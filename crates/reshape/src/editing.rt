@@ -9,7 +9,8 @@ use json_io::{Error, ErrorCode, Place, Result};
 use json_value::{Edit, Value};
 use std::alloc::Global;
 
-// The refusal of one edit, with its number. Want of memory has no place.
+// Returns the error of the edit of this number, counted from 0. The error that memory ran out has
+// no place.
 fn error_at_edit(error: Error, number: u32) -> Error
     ensures code { result.code ≡ error.code }
     ensures place { result.place ≡ place_numbered error.code error.place number }
@@ -23,10 +24,12 @@ fn error_at_edit(error: Error, number: u32) -> Error
     }
 }
 
-/// Applies the edits in turn, each to what those before it left. Fails with `NotFound` or
-/// `TypeUnmatched` at the number of the first edit that does not apply, and with `NoMemory` if
-/// memory runs out; what the value is then is not said. There must be fewer than 4,294,967,296
-/// edits.
+/// Applies the edits to `value` in order, each to the result of those before it. There must be
+/// fewer than 4,294,967,296 edits.
+///
+/// Fails with `NotFound` or `TypeUnmatched` at the first edit that does not apply; the error's
+/// place is `Place::Edit` with the edit's index, counted from 0. Fails with `NoMemory` if memory
+/// runs out. After an error `value` is unspecified: some of the edits may have been applied.
 pub fn apply_all(alloc: Global, value: &mut Value, edits: &[Edit]) -> Result<()>
     requires { length edits.now < 2 ^ 32 }
     ensures ok { OnOk result

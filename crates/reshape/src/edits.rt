@@ -6,7 +6,7 @@ ghost use Rattle.reshape.specs.Asked.{edits_of};
 use json_value::Edit;
 use std::alloc::Global;
 
-/// The edits that the words ask for, the first of them first.
+/// The edits that the arguments of `reshape` ask for, in the order in which they apply.
 ///
 /// ```
 /// use json_text::Words;
@@ -25,7 +25,7 @@ pub struct Edits {
 }
 
 impl Edits {
-    /// No edits. Takes no memory.
+    /// Creates an empty list of edits. Allocates nothing.
     pub(crate) fn none(alloc: Global) -> Edits
         ensures { edits_of result ≡ [] }
     {

@@ -18,7 +18,7 @@ use json_text::Rules;
 use json_value::{Edit, Value};
 use std::alloc::Global;
 
-// By which rules the input is read, and in which style the text is printed.
+// The rules by which the input is read, and the style in which the text is printed.
 #[derive(Clone, Copy)]
 struct Forms<'a> {
     rules: Rules,
@@ -52,17 +52,24 @@ fn read_edit_write<S: Source, K: Sink>(
     print_value(alloc, &value, forms.style, sink)
 }
 
-/// Reads all of the source by the rules, applies the edits in turn, and writes the text in the
-/// style, flushed. Nothing is written before the whole input was found to be a text and every edit
-/// was applied. The edited tree may have any number of levels, and keys that repeat. There are
-/// fewer than 2^32 edits.
+/// Reads all of `source` as one JSON text by the rules, applies the edits in order, writes the text
+/// of the edited value in this style to `sink`, and flushes it. There must be fewer than
+/// 4,294,967,296 edits.
 ///
-/// Fails with each error of the reader at its place in the input, among them
-/// `RecursionLimitExceeded` past the levels of the rules and `DuplicateKey` where a key repeats
-/// that has to be unique, with `TooLarge` past 4,294,967,295 bytes, with `NotFound` and
-/// `TypeUnmatched` at the number of the first edit that does not apply, with `Io` where the source
-/// or the sink fails, and with `NoMemory`. Of bytes that are known, where nothing fails, the result
-/// is the one that they call for, or `NoMemory`.
+/// Writes nothing unless the whole input is valid and every edit applies. The edited value may have
+/// any number of levels, and keys that repeat.
+///
+/// Fails with:
+///
+/// - the error of the grammar or the rules at its offset if the input is not valid, such as
+///   `RecursionLimitExceeded` or `DuplicateKey`,
+/// - `TooLarge` if the input has more than 4,294,967,295 bytes,
+/// - `NotFound` or `TypeUnmatched` at the index of the first edit that does not apply,
+/// - `Io` if the source or the sink fails,
+/// - `NoMemory` if memory runs out.
+///
+/// If the bytes of the source are known and neither the source nor the sink fails, the result is
+/// the one that those bytes require, or `NoMemory`.
 pub fn reshape_with<S: Source, K: Sink>(
     alloc: Global,
     source: &mut S,
@@ -92,8 +99,13 @@ pub fn reshape_with<S: Source, K: Sink>(
     read_edit_write(alloc, source, sink, edits, Forms { rules, style })
 }
 
-/// Reshapes by the usual rules, as `reshape_with` does: input of at most 254 levels, in which the
-/// keys of an object may repeat. Fails as `reshape_with` does.
+/// Reads all of `source` as one JSON text, applies the edits in order, writes the text of the
+/// edited value in this style to `sink`, and flushes it. There must be fewer than 4,294,967,296
+/// edits. The input may have at most 254 levels, and its keys may repeat.
+///
+/// Writes nothing unless the whole input is valid and every edit applies. Fails if the input is not
+/// valid, if an edit does not apply, if the source or the sink fails, and if memory runs out.
+/// [`reshape_with`] lists the errors, and reads by other rules.
 pub fn reshape<S: Source, K: Sink>(
     alloc: Global,
     source: &mut S,

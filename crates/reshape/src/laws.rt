@@ -1,13 +1,14 @@
 // Laws of the words, over the definitions alone.
 ghost use Rattle.reshape.specs.Laws.{OneCommand, MadeAlone};
 
-/// The words of the command line ask for one command at most: for the same edits in the same
-/// layout.
+/// States that the same arguments never ask for two different commands: they determine the edits,
+/// the layout and the rules.
 pub fn one_command()
     ensures { OneCommand }
 {}
 
-/// Words that ask for made input ask for one number of records, and for no command.
+/// States that arguments that ask for generated input ask for one number of records, and for no
+/// edits and no layout.
 pub fn made_alone()
     ensures { MadeAlone }
 {}

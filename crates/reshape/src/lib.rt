@@ -1,5 +1,5 @@
-//! Reads a JSON text from a source, edits its value, and writes the text of the edited tree to a
-//! sink: all that the program `reshape` does, as calls.
+//! Reads a JSON text from a source, edits its value, and writes the text of the edited value to a
+//! sink: all that the program `reshape` does, as functions.
 //!
 //! ```
 //! use json_text::{SliceSource, VecSink, Words};

@@ -16,8 +16,8 @@ use json_io::{Result, Sink, SliceSource, VecSink};
 use json_layout::Style;
 use std::alloc::Global;
 
-/// Returns the style in which made input is printed: compact, with the members of each object in
-/// the order of their keys.
+/// Returns the style in which generated input is printed: compact, with the members of each object
+/// sorted by their keys.
 pub fn sorted_style() -> Style<'static>
     ensures { layout_of result ≡ sorted_compact }
 {
@@ -44,7 +44,7 @@ fn push_record(text: &mut Vec<u8>, number: u32) -> Result<()>
     Ok(())
 }
 
-// Returns an array of `records` records, which are numbered from 0 on.
+// Returns the text of an array of `records` records, which are numbered from 0.
 fn make(alloc: Global, records: u32) -> Result<Vec<u8>>
     ensures ok { IfOk result (λ v. v.items ≡ spec.made records) }
     ensures err { OnlyNoMemory result }
@@ -58,7 +58,7 @@ fn make(alloc: Global, records: u32) -> Result<Vec<u8>>
     Ok(text)
 }
 
-// The text of made input, compact and sorted.
+// Returns the text of the value of generated input, compact and sorted.
 fn print_made(alloc: Global, input: &[u8]) -> Result<Vec<u8>>
     ensures ok { IfOk result (λ v. IsPrinted input.now v.items) }
     ensures err { (tree : Tree) → IsInput usual_rules input.now tree
@@ -89,7 +89,7 @@ fn push_number(text: &mut Vec<u8>, number: u128) -> Result<()>
     Ok(())
 }
 
-// A name, how many bytes there are, and their sum.
+// Appends a line: a name, the number of the bytes, and their sum.
 fn push_totals(text: &mut Vec<u8>, name: &[u8], bytes: &[u8]) -> Result<()>
     ensures ok { OnOk result (text.new.items ≡ text.old.items ++ totals name.now bytes.now) }
     ensures err { OnlyNoMemory result }
@@ -116,9 +116,12 @@ fn summary(alloc: Global, records: u32) -> Result<Vec<u8>>
     Ok(text)
 }
 
-/// Makes an array of this number of records, at most 100,000, prints it compact and sorted, and
-/// writes how many bytes both have and their sums, a line each, flushed. Fails where the sink fails
-/// or memory runs out, and then the sink gained a prefix of this at most.
+/// Generates an array of `records` records, at most 100,000, prints its value compact and sorted,
+/// and writes a summary of both texts to `sink`: one line for each, with its number of bytes and
+/// their sum. Flushes the sink.
+///
+/// Fails with `Io` if the sink fails, and with `NoMemory` if memory runs out. The sink then has at
+/// most a prefix of the summary.
 pub fn write_summary<K: Sink>(alloc: Global, records: u32, sink: &mut K) -> Result<()>
     requires { records ≤ 100000 }
     ensures ok { OnOk result (GainsSummary records (K.state sink.old) (K.state sink.new)) }

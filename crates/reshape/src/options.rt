@@ -20,18 +20,18 @@ enum Role<'a> {
     EditsWord(&'a str),
 }
 
-/// What the words ask for, before the edits word is read.
+/// What the arguments ask for, with the edits not read yet.
 #[derive(Clone, Copy)]
 pub(crate) struct ParsedOptions<'a> {
-    /// The indent, where one is asked for.
+    /// The indent, if an option asks for one.
     pub indent: Option<&'static str>,
     /// Whether the members of each object are sorted by their keys.
     pub sorted: bool,
-    /// Whether the names of each object have to differ.
+    /// Whether the keys of each object must differ.
     pub unique: bool,
-    /// The most levels, where they are asked for.
+    /// The greatest number of levels of the input, if an option asks for one.
     pub depth: Option<u32>,
-    /// The word that is no option.
+    /// The argument that is no option, if there is one: the text of the edits.
     pub edits: Option<&'a str>,
 }
 
@@ -53,7 +53,7 @@ fn spaces_of(digits: &[u8]) -> Option<&'static str>
     }
 }
 
-// The indent that an option asks for.
+// Returns the indent that an option asks for.
 fn read_indent(word: &str) -> Option<&'static str>
     ensures { option_map (λ s. s.now) result ≡ indent_in word.now }
 {
@@ -64,22 +64,22 @@ fn read_indent(word: &str) -> Option<&'static str>
     }
 }
 
-// The most levels that an option asks for.
+// Returns the greatest number of levels that an option asks for.
 fn depth_of(word: &str) -> Option<u32>
     ensures { result ≡ depth_in word.now }
 {
     option_number(word, "--depth", 1_024)
 }
 
-// The records of made input that an option asks for.
+// Returns the number of records of generated input that an option asks for.
 fn made_of(word: &str) -> Option<u32>
     ensures { result ≡ made_in word.now }
 {
     option_number(word, "--make", 100_000)
 }
 
-/// Returns the number of records of made input that the words ask for, if there is one word and it
-/// asks for them: 100,000 at most.
+/// Returns the N of the argument `--make=N`, at most 100,000, if that is the only argument. Returns
+/// `None` for all other arguments.
 pub fn made_asked(words: &Words) -> Option<u32>
     ensures asks { MatchOption result (¬ (IsMaking words.now)) (AsksMade words.now) }
     ensures few { IfSome result (λ n. n ≤ 100000) }
@@ -90,7 +90,7 @@ pub fn made_asked(words: &Words) -> Option<u32>
     made_of(words.word(0))
 }
 
-// What a word is for; none where it is an option that is not known.
+// Returns what an argument is for; `None` for an unknown option.
 fn read_role(word: &str) -> Option<Role<'_>>
     ensures { MatchOption result (is_known word.now ≡ false) (HasRole word.now) }
 {
@@ -111,7 +111,7 @@ fn read_role(word: &str) -> Option<Role<'_>>
 }
 
 impl<'a> ParsedOptions<'a> {
-    // With one more word; none where it is unknown, or another like it was there.
+    // Returns the options with one more argument; `None` if it is unknown or repeats one.
     fn take_word(self, word: &'a str) -> Option<ParsedOptions<'a>>
         ensures taken { IfSome result (λ o. (ws : List (List ℕ))
             → Gathered ws self.entry → Gathered (ws ++ word.now ∷ []) o) }
@@ -143,7 +143,8 @@ impl<'a> ParsedOptions<'a> {
         }
     }
 
-    /// Returns the rules that are asked for: the usual ones if the words say nothing of them.
+    /// Returns the rules by which the input is read. If no option asks for a depth, they allow at
+    /// most 254 levels. The depth must be at most 1,024.
     pub fn rules(self) -> Rules
         requires { ForSome self.depth (λ n. n ≤ 1024) }
         ensures { rules_of result
@@ -157,9 +158,9 @@ impl<'a> ParsedOptions<'a> {
     }
 }
 
-/// Returns the options and the edits word among the words. `None` if an option is unknown or occurs
-/// twice, with the same number or another, if two options ask for an indent, or if two words are no
-/// options.
+/// Reads the options, and finds the argument with the edits: the one that is no option. Returns
+/// `None` if an option is unknown or occurs twice, if two options ask for an indent, or if two
+/// arguments are no options.
 pub fn gather(words: &Words) -> Option<ParsedOptions<'_>>
     ensures { MatchOption result (¬ (IsReshaping words.now)) (Gathered words.now) }
 {

@@ -46,10 +46,22 @@ fn carry_out<S: Source, K: Sink>(
     }
 }
 
-/// Does all that the program does, and returns its status: 0 done, 1 the input is not valid, 2 the
-/// words are not valid, 3 an edit does not apply, 4 reading failed, 5 writing failed, 6 memory ran
-/// out. With 1 to 6 the text of the error goes to `errs`. Where the words ask for made input
-/// nothing is read, and its summary is written.
+/// Does all that the program `reshape` does with these arguments, and returns its status: reads a
+/// JSON text from `source`, edits its value, and writes the text of the edited value to `sink`.
+/// [`asked`] explains the arguments, `words`.
+///
+/// The status is:
+///
+/// - 0 if all is done,
+/// - 1 if the input is not valid,
+/// - 2 if the arguments are not valid,
+/// - 3 if an edit does not apply,
+/// - 4 if reading failed,
+/// - 5 if writing failed,
+/// - 6 if memory ran out.
+///
+/// If it is not 0, the error is written to `errs`. With `--make=N`, which asks for a summary of
+/// generated input, nothing is read from `source`.
 pub fn run<S: Source, K: Sink, E: Sink>(
     alloc: Global,
     words: &Words,

@@ -16,7 +16,7 @@ use json_io::{Result, Words};
 use json_value::Edit;
 use std::alloc::Global;
 
-// The edits that a word spells, by the usual rules.
+// Reads the edits that an argument spells, by the usual rules.
 fn read_word(alloc: Global, word: &str) -> Result<Edits>
     ensures ok { IfOk result (λ es. SpellsEdits word.now (edits_of es)) }
     ensures err { IfErr result (λ e. (e ≡ no_memory)
@@ -28,7 +28,7 @@ fn read_word(alloc: Global, word: &str) -> Result<Edits>
     }
 }
 
-// The edits that the edits word spells, or none without that word.
+// Reads the edits that the argument spells; without one there are none.
 fn read_edits_word(alloc: Global, word: Option<&str>) -> Result<Edits>
     ensures ok { IfOk result (λ es.
         AsksEdits (option_to_list (option_map (λ s. s.now) word.entry)) (edits_of es)) }
@@ -43,16 +43,22 @@ fn read_edits_word(alloc: Global, word: Option<&str>) -> Result<Edits>
     }
 }
 
-/// Reads what the words ask for. A word that begins with `--` is an option: `--pretty` asks for an
-/// indent of two spaces, `--tabs` for one of a tab, `--indent=N` for one of N spaces, which is one
-/// digit from 0 to 8, `--sort-keys` for members in the order of their keys, `--unique-keys` for
-/// input in which the keys of each object differ, and `--depth=N` for input of N levels at most,
-/// which is a number from 0 to 1,024 without leading zeros. Any other word is the edits word, which
-/// asks for the edits that it spells; it is itself read by the usual rules. `--make=N` alone asks
-/// for made input of N records, which is a number from 0 to 100,000 without leading zeros. Fails
-/// with `BadWords` if an option is unknown or occurs twice, if two options ask for an indent, if
-/// `--make=N` has another word beside it, and if there are two edits words or the one has another
-/// form, and with `NoMemory` if memory runs out.
+/// Reads what the arguments of `reshape` ask for. An argument that begins with `--` is an option:
+///
+/// - `--pretty` asks for an indent of two spaces,
+/// - `--tabs` for an indent of a tab,
+/// - `--indent=N` for an indent of N spaces, N being one digit from 0 to 8,
+/// - `--sort-keys` for members sorted by their keys,
+/// - `--unique-keys` for input in which the keys of each object differ,
+/// - `--depth=N` for input of at most N levels, N being from 0 to 1,024 without leading zeros,
+/// - `--make=N`, as the only argument, for generated input of N records, N being from 0 to 100,000
+///   without leading zeros.
+///
+/// Any other argument is a JSON text, an array of edits. It may have at most 254 levels.
+///
+/// Fails with `BadWords` if an option is unknown or occurs twice, if two options ask for an indent,
+/// if `--make=N` is not the only argument, if two arguments are no options, or if the one is not an
+/// array of edits. Fails with `NoMemory` if memory runs out.
 pub fn asked(alloc: Global, words: &Words) -> Result<Asked>
     ensures ok { IfOk result (AsksFor words.now) }
     ensures err { IfErr result (λ e. (e ≡ no_memory) ⊎ ((e ≡ bad_words) × ¬ (IsAsked words.now))) }
