@@ -1,8 +1,9 @@
 // Laws of what is given to events.
 ghost use Rattle.json_print.specs.Data.{DatumTokens};
 
-/// Proves that each key of a datum has a text exactly if the datum has a tree, and that the parts
-/// of the datum are then the tokens of that tree, from left to right.
+/// Proves that each key of a datum, which is what a typed value means, has a text exactly if the
+/// datum has a tree, and that the parts of the datum are then the tokens of that tree, from left to
+/// right.
 pub fn datum_tokens()
     ensures { DatumTokens }
 {}
