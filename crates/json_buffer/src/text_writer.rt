@@ -74,8 +74,8 @@ impl TextWriter {
         }
     }
 
-    /// Returns the bytes of the text so far: a JSON text if a whole value was written, else a part
-    /// of one.
+    /// Returns the bytes of the text so far: a whole JSON text if all parts of a value were written
+    /// without an error.
     pub fn into_vec(self) -> Vec<u8>
         ensures { result.items ≡ (text_state self).bytes }
     {

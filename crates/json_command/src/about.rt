@@ -83,7 +83,8 @@ impl About {
     }
 
     /// Writes the hint to `errs` if `status` is 2, the status of invalid arguments, and nothing for
-    /// any other status. Of a write that fails no error is returned.
+    /// any other status. No error is returned: if a write fails, `errs` has gained a prefix of the
+    /// hint.
     pub fn add_hint<E: Sink>(&self, status: u8, errs: &mut E)
         ensures added { status ≡ 2
             → Reports self.now.hint.now (E.state errs.old) (E.state errs.new) }

@@ -1,4 +1,4 @@
-// Laws of inputs, over the definitions alone.
+//! Laws of which inputs have a fault. No program needs to call them.
 ghost use Rattle.json_command.specs.Laws.{OneInputFault, ValidHasNoFault, SomeInputFault};
 
 /// Proves that an input has at most one fault, at one place.

@@ -1,4 +1,4 @@
-// Laws over the definitions, and of each document.
+//! Laws of documents and of the trees that they represent. No program needs to call them.
 ghost use Rattle.json_doc.specs.Laws.{OneTreeOfDoc, TreeAtRoot, TreesAreProper, ReadingBegins, EventsFitRoom};
 
 use crate::doc::Doc;

@@ -18,9 +18,9 @@ use json_io::{Sink, SinkError, SinkResult};
 use json_layout::{BufferedWriter, Layout, show_piece};
 use std::alloc::Global;
 
-/// A layout in which the members of each object are sorted by their keys, and where to allocate for
-/// that: for an object whose keys are not in order 16 bytes a member, until the end of the object
-/// was written.
+/// A layout in which the members of each object are sorted by their keys. Sorting allocates 16
+/// bytes a member for an object whose keys are not in order, until the end of the object was
+/// written.
 ///
 /// ```
 /// use json_doc::read_document;
@@ -36,16 +36,16 @@ use std::alloc::Global;
 /// ```
 #[derive(Clone, Copy)]
 pub struct SortedLayout<L> {
-    /// Allocates the index of the members of an object.
+    /// What allocates the index of the members of an object while it is sorted.
     pub alloc: Global,
     /// The layout of the text, but for the order of members.
     pub inner: L,
 }
 
-/// Writes the JSON text of the viewed value to `out` with the members of each object in it sorted
-/// by their keys. `level` is the number of containers around the value. Fails with the error of the
-/// sink, and with `NoMemory` if memory runs out for an index of members or the nesting reaches 2^64
-/// - 1 levels; `out` has gained a prefix of the text then.
+/// Writes the JSON text of the viewed value to `out`, the members of each object in it sorted by
+/// keys. `level` is the number of containers around the value. Fails with the error of the sink,
+/// and with `NoMemory` if memory runs out for an index of members or the levels reach 2^64 - 1;
+/// `out` has gained a prefix of the text then.
 pub fn show_sorted_document<W: Sink, L: Layout>(
     view: DocView<'_>,
     layout: SortedLayout<L>,
@@ -145,8 +145,8 @@ fn keys_in_order(view: DocView<'_>) -> bool
 /// Writes the members of the viewed value to `out` as the text of an object, these members and
 /// those of each object in it sorted by their keys; a value that is no object has none. `level` is
 /// the number of containers around the object. Fails with the error of the sink, and with
-/// `NoMemory` if memory runs out for an index of members or the nesting reaches 2^64 - 1 levels;
-/// `out` has gained a prefix of the text then.
+/// `NoMemory` if memory runs out for an index of members or the levels reach 2^64 - 1; `out` has
+/// gained a prefix of the text then.
 #[cycle(shown_sorted)]
 pub fn show_sorted_members<W: Sink, L: Layout>(
     view: DocView<'_>,
@@ -233,8 +233,8 @@ fn show_by_places<W: Sink, L: Layout>(
 /// Writes the elements of the viewed value to `out` as the text of an array, the members of each
 /// object in it sorted by their keys; a value that is no array has none. `level` is the number of
 /// containers around the array. Fails with the error of the sink, and with `NoMemory` if memory
-/// runs out for an index of members or the nesting reaches 2^64 - 1 levels; `out` has gained a
-/// prefix of the text then.
+/// runs out for an index of members or the levels reach 2^64 - 1; `out` has gained a prefix of the
+/// text then.
 pub fn show_sorted_elements<W: Sink, L: Layout>(
     view: DocView<'_>,
     layout: SortedLayout<L>,

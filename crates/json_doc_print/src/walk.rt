@@ -5,16 +5,16 @@ ghost use Rattle.std.specs.Prelude.{◌≡◌, is_ok};
 
 use json_io::Result;
 
-/// The error of a walk: a call of the `Events` that it wrote to failed. These keep the error, and
-/// return it to each later call.
+/// The error of a function that writes a value to an `Events`: a call of that failed. The `Events`
+/// keeps the library's error and returns it to each later call.
 #[derive(Clone, Copy)]
 pub struct EventsFailed;
 
-/// The result of a function that writes a value to `Events` by its tokens.
+/// The result of a function that writes a value to an `Events` by its tokens.
 pub type EventsResult = std::result::Result<(), EventsFailed>;
 
-/// Converts the result of a call of `Events`: `Ok` stays `Ok`, and any error becomes
-/// [`EventsFailed`].
+/// Converts the result of a call of an `Events`: `Ok` stays `Ok`, and any error becomes
+/// [`EventsFailed`]. Fails with that alone.
 #[inline(always)]
 pub fn events_result(answer: Result<()>) -> EventsResult
     ensures { is_ok result ≡ is_ok answer }

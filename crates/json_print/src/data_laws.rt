@@ -1,4 +1,4 @@
-// Laws of what is given to events.
+//! A law of the parts of a datum. No program needs to call it.
 ghost use Rattle.json_print.specs.Data.{DatumTokens};
 
 /// Proves that each key of a datum, which is what a typed value means, has a text exactly if the

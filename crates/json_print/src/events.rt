@@ -11,8 +11,8 @@ ghost use Rattle.json_print.specs.Taking.{Takes};
 
 use json_io::Result;
 
-/// What may come next of the parts of a value. The contracts of [`Events`] say by it which method
-/// may be called next; no method returns it.
+/// Which part of a value may be written next. The contracts of [`Events`] say by it which method
+/// may be called; no method returns it.
 ///
 /// ```
 /// use json_print::ExpectedEvent;
@@ -24,9 +24,9 @@ use json_io::Result;
 pub enum ExpectedEvent {
     /// The whole value: no part of it was written.
     Value,
-    /// An element or the end of the array. The flag says whether it would be the first element.
+    /// An element, or the end of the array. The flag is true if no element was written yet.
     Element(bool),
-    /// A key or the end of the object. The flag says whether it would be the first key.
+    /// A key, or the end of the object. The flag is true if no key was written yet.
     Key(bool),
     /// The value of the member whose key was written last.
     Member,

@@ -106,9 +106,9 @@ impl<W: Sink, F: Formatter> Serializer<W, F> {
         }
     }
 
-    /// Returns the serializer, which sorts now: the members of each object are written in the order
-    /// of the bytes of their unescaped keys, and those of one key as they came. Nothing may be
-    /// written yet. The members of an object wait in memory for its end.
+    /// Returns the serializer with sorting: it writes the members of each object in the order of
+    /// the bytes of their unescaped keys, and those of equal keys in the order in which they came.
+    /// It must have written nothing yet. The members of an object wait in memory for its end.
     pub fn sort_map_keys(mut self) -> Serializer<W, F>
         requires { IsFresh (out_of W.state self) }
         ensures sorts { out_of W.state result ≡ record (out_of W.state self) { sorts = true } }
