@@ -75,7 +75,8 @@ impl TextBuffer {
         self.bytes.resize(ready, 0).is_ok()
     }
 
-    // The same, at no cost where there is room.
+    // Makes room for `more` more bytes as `grow` does, at no cost if there is room already. Returns
+    // `false` if memory runs out.
     #[inline(always)]
     fn has_room(&mut self, more: usize) -> bool
         ensures kept { buffered self.new ≡ buffered self.old }

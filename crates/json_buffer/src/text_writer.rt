@@ -164,8 +164,8 @@ impl TextWriter {
         Ok(())
     }
 
-    // The same in line: a key is mostly a constant, which is tested at compile time and stored as
-    // a few words.
+    // Appends a string, after which `next` may follow, in line: a key is mostly a constant, which
+    // is tested at compile time and stored as a few words.
     #[inline(always)]
     fn constant(&mut self, text: &str, next: Lead) -> Result<()>
         ensures { texts.PutsText (texts.string_put next) self.old self.new text.now result }

@@ -139,7 +139,7 @@ impl<'a> OpenKeys<'a> {
                 .contains(&(front_number(name), CowStr::Borrowed(name)))
     }
 
-    // Whether the innermost container had the name. If not, the name goes into the set.
+    // Returns whether the innermost container has the name. If not, the name goes into the set.
     fn take_into_set(&mut self, name: CowStr<'a>) -> Result<bool>
         requires some { HasSomeNames self.old }
         requires inside { 0 < length self.old.outer.items }
@@ -155,7 +155,8 @@ impl<'a> OpenKeys<'a> {
         Ok(!added)
     }
 
-    // The same of a name without escapes: it joins the names of its container, where there is room.
+    // Returns whether the innermost container has the name, which has no escapes. If not, the name
+    // goes into the list of its container if that has room, and else into the set.
     fn take_plain(&mut self, name: &'a str) -> Result<bool>
         requires some { HasSomeNames self.old }
         requires inside { 0 < length self.old.outer.items }
@@ -172,7 +173,8 @@ impl<'a> OpenKeys<'a> {
         Ok(false)
     }
 
-    // The same of a name with escapes.
+    // Returns whether the innermost container has the name, which has escapes. If not, the
+    // unescaped name goes into the set.
     fn take_escaped(&mut self, name: Span<'_>) -> Result<bool>
         requires some { HasSomeNames self.old }
         requires inside { 0 < length self.old.outer.items }

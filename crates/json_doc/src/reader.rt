@@ -54,8 +54,8 @@ fn record_number(visitor: &mut DocumentVisitor, literal: &str, input: &[u8], fro
     }
 }
 
-// Whether the event was recorded, whose text begins in the input at `from`. There is nothing to
-// record of the end.
+// Records an event whose text begins in the input at the offset `from`, and returns whether it was
+// recorded. Of the end there is nothing to record.
 #[inline(always)]
 pub(crate) fn record_event<const USE: u8>(
     visitor: &mut DocumentVisitor,
@@ -86,8 +86,8 @@ pub(crate) fn record_event<const USE: u8>(
     }
 }
 
-// Where the text between the quotes of a string or a name begins, or a literal, if `end` is the
-// offset after the token.
+// Returns the offset at which the text between the quotes of a string or a name begins, or the
+// literal of a number, if `end` is the offset after the token.
 #[inline(always)]
 pub(crate) fn start_offset(event: Event<'_>, end: usize) -> usize
     requires { length (event_bytes event) ≤ end }
@@ -117,7 +117,8 @@ fn repeated_name_error(name: Span<'_>, text: &str, end: usize) -> Error
     }
 }
 
-// Refuses a name that its object has already. `end` is the offset after the event.
+// Adds an event to the names of the open containers. Fails with `DuplicateKey` for a name that its
+// object has already, and with `NoMemory` if memory runs out. `end` is the offset after the event.
 fn refuse_repeated<'a>(
     keys: &mut OpenKeys<'a>,
     event: Event<'a>,
@@ -145,7 +146,8 @@ fn refuse_repeated<'a>(
     Ok(())
 }
 
-// The same, where the names of each object have to differ.
+// Does what `refuse_repeated` does if the rules say that names must differ, and nothing if not.
+// `end` is the offset after the event.
 #[inline(always)]
 fn check_names<'a>(
     rules: Rules,

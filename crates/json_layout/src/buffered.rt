@@ -172,7 +172,7 @@ impl<W: Sink> BufferedWriter<W> {
         }
     }
 
-    // The same of a key, with a colon after it.
+    // Does what `put_item` does for a key, with a colon after it.
     #[inline(always)]
     pub(crate) fn put_key(&mut self, first: bool, key: &[u8]) -> bool
         ensures put { IsTrue result → Adds (⟦<BufferedWriter<W> as Sink>⟧.state self.old)
