@@ -132,10 +132,9 @@ impl Console {
         Some((failure, reason))
     }
 
-    /// Writes to standard error why a run ended with `status`, if a standard stream failed in it
-    /// (`ReadFailed` or `WriteFailed`) and the system gave a reason that a user can tell from
-    /// others. `program` is the name that begins the line. Writes nothing in any other case, nor if
-    /// memory runs out for the line.
+    /// Writes to standard error why a run ended with `ReadFailed` or `WriteFailed`, if the system
+    /// gave a reason that a user can tell from others. `program` is the name that begins the line.
+    /// Writes nothing in any other case, nor if memory runs out for the line.
     pub fn explain_failure(&mut self, alloc: Global, program: &str, status: u8) {
         let Some((failure, reason)) = self.failure(status) else {
             return;

@@ -17,9 +17,9 @@ pub(crate) const MAX_BYTES: usize = 4_294_967_295;
 
 /// Reads all that the source has left as one JSON text (RFC 8259), and returns its document.
 /// `rules` say how many levels the text may have, and whether names may repeat in an object. Fails
-/// with `Io` at the place `Reading` if the source fails, with `TooLarge` if it has more than
-/// 4,294,967,295 bytes, with `InvalidUTF8` or the fault of the text by the rules at its offset, and
-/// with `NoMemory` if memory runs out.
+/// with `Io` at the place `Reading` if the source fails, and with `TooLarge` if it has more than
+/// 4,294,967,295 bytes. Fails with `InvalidUTF8` or the fault of the text by the rules, at its
+/// offset, and with `NoMemory` if memory runs out.
 pub fn read_document_from<S: Source>(alloc: Global, source: &mut S, rules: Rules) -> Result<Rc<Doc>>
     ensures read { IfOk result (λ d. ReadsInput (rules_of rules)
         (S.state source.old) (S.state source.new) (doc_tree d.value (doc_root d.value))) }

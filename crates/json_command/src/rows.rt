@@ -120,11 +120,11 @@ where
         && errs.as_slice() == row.errors.as_slice()
 }
 
-/// Runs a program on each worked row and returns for how many rows it returns another status or
-/// writes other texts than the row says; a row that cannot be read counts too. `run` is the
-/// program: its arguments are the allocator, the words of the row, the source, the sink and the
-/// sink for errors, and it returns the status. The source returns at most `at_once` bytes a call,
-/// at least one. Fails with `NoMemory` if memory runs out for a row.
+/// Runs a program on each worked row, and returns the number of rows with another status or other
+/// texts than the program's. A row that cannot be read counts too. `run` is the program, which
+/// returns its status. Its arguments are the allocator, the words of the row, the source, the sink
+/// and the sink for errors. The source returns at most `at_once` bytes a call, at least one. Fails
+/// with `NoMemory` if memory runs out for a row.
 pub fn differing_rows<F>(alloc: Global, rows: &str, at_once: usize, run: F) -> Result<u32>
 where
     F: Fn(Global, &Words, &mut FakeSource<'_>, &mut VecSink, &mut VecSink) -> u8,

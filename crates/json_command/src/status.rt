@@ -44,9 +44,10 @@ impl Status {
         self as u8
     }
 
-    /// Returns the status of a program that ends with this error: `OutOfMemory`, `ReadFailed` or
-    /// `WriteFailed` by its code and place, `InvalidArguments` for `BadWords`, `EditFailed` for
-    /// `NotFound` and `TypeUnmatched`, and `InvalidInput` for every other error.
+    /// Returns the status of a program that ends with this error. It is `OutOfMemory` for
+    /// `NoMemory`, and for `Io` `WriteFailed` at the place `Writing` and else `ReadFailed`. It is
+    /// `InvalidArguments` for `BadWords`, `EditFailed` for `NotFound` and `TypeUnmatched`, and
+    /// `InvalidInput` for every other code.
     pub fn of_error(error: &Error) -> Status
         ensures { result ≡ error_status error.now.code error.now.place }
     {

@@ -7,8 +7,8 @@ use crate::json_type::JsonType;
 /// A number that is an integer of `u64` or `i64` is kept by value (RFC 8259, section 6), every
 /// other number by its literal. A literal, a string and a key are `len` bytes of the document's
 /// text from the offset `start` on. The `len` of a container counts its elements or members. Its
-/// descendants follow its cell, in the order of the JSON text, and its `link` is the position after
-/// the last of them, or after its own cell if it is empty. The layout of cells is private to this
+/// descendants follow its cell, in the order of the JSON text. Its `link` is the position after the
+/// last of them, or after its own cell if it is empty. The layout of cells is private to this
 /// crate: programs read values by [`DocView`](crate::DocView).
 ///
 /// ```

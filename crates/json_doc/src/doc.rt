@@ -5,8 +5,8 @@ ghost use Rattle.json_doc.specs.Shape.{CellsInPlace};
 use crate::cell::Cell;
 use crate::view::DocView;
 
-/// A packed document: a JSON value as an array of [`Cell`]s, one for each value and each key, and
-/// one string that has all texts, keys and literals one after another.
+/// A packed document: a JSON value as an array of [`Cell`]s, one for each value and each key. One
+/// text has all strings, keys and literals of it, one after another.
 ///
 /// The cells are in the order of the JSON text: that of a container precedes those of its elements,
 /// or of its keys and values. Each literal is a number (RFC 8259, section 6). A position in the

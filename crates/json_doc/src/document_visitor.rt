@@ -63,7 +63,7 @@ impl DocumentVisitor {
     ghost use Rattle.json_doc.specs.OpenCells.{outer_place, outer_count};
     ghost use Rattle.json_doc.specs.declared.cell.Cell.TheVariants.{Null as null_cell};
 
-    /// Creates a builder with room for all that a JSON text of `text_len` bytes may need:
+    /// Creates a builder with room for all that a JSON text of `text_len` bytes may need. That is
     /// `(text_len + 1) / 2` values and keys, and `text_len` bytes of strings, keys and literals.
     /// `text_len` has to be at most 4,294,967,295. Fails with `NoMemory` if memory runs out.
     pub fn new(alloc: Global, text_len: usize) -> Result<DocumentVisitor>

@@ -30,7 +30,7 @@ fn byte_or_zero(bytes: &[u8], at: usize) -> u8
 
 /// Returns the first eight bytes of a name as a big-endian number, with zero bytes after the end of
 /// a shorter name. If the numbers of two names differ, the name with the smaller number comes first
-/// in the order of bytes; if they are equal, the names themselves have to be compared.
+/// in the order of bytes. If they are equal, the names themselves have to be compared.
 ///
 /// ```
 /// use json_doc::internal::front_number;
@@ -63,7 +63,7 @@ pub struct OuterKeys<'a> {
 }
 
 /// The names so far of each open container. The first names of an object are in a list and are
-/// compared one by one; all others are in an ordered set, so that a name of an object of n members
+/// compared one by one. All others are in an ordered set, so that a name of an object of n members
 /// takes no more than some log n comparisons. There the number of its first bytes precedes it, so
 /// that few comparisons look at the name itself, and it is borrowed from the text, unless it has
 /// escapes.

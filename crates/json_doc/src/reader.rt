@@ -215,11 +215,11 @@ pub(crate) fn read_by(
     Ok(visitor.into_doc())
 }
 
-/// Reads a JSON text of at most 4,294,967,295 bytes into a packed document by `rules`: how many
-/// levels the text may have (RFC 8259, section 9), and whether a name may repeat in an object
-/// (section 4). Fails with the first error of the text by the rules, at its place: of a bracket
-/// that opens a level too many and a name that repeats, the first one, and either before all other
-/// errors. Fails with `NoMemory` if memory runs out.
+/// Reads a JSON text of at most 4,294,967,295 bytes into a packed document by rules. `rules` say
+/// how many levels the text may have (RFC 8259, section 9), and whether a name may repeat in an
+/// object (section 4). Fails with the error of the text by the rules, at its place. A bracket that
+/// opens a level too many and a name that repeats precede all other errors, and of these two the
+/// first one is returned. Fails with `NoMemory` if memory runs out.
 ///
 /// ```
 /// use json_doc::read_document_with;
@@ -252,7 +252,7 @@ pub fn read_document(alloc: Global, text: &str) -> Result<Rc<Doc>>
 }
 
 /// Reads the first value of the parser's input into a packed document, whatever follows the value.
-/// The parser must have returned no event yet; it reads in its own mode, strict or lossy, and is
+/// The parser must have returned no event yet. It reads in its own mode, strict or lossy, and is
 /// right after the value then, and done. Fails with the error of the value at its place in the
 /// input; each later call of [`Parser::next`] returns that error again. Fails with `NoMemory` if
 /// memory runs out, and then the parser may be within the value.

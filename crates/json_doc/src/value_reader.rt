@@ -86,7 +86,7 @@ pub(crate) fn record_value<'a>(
 }
 
 /// Reads one value into a packed document, whatever follows it. `first` is the value's first event,
-/// and the one that the parser returned last; the parser reads on to the end of the value and is
+/// and the one that the parser returned last. The parser reads on to the end of the value and is
 /// right after it then. Fails with the parser's error, which the parser keeps, and with `NoMemory`
 /// if memory runs out.
 ///

@@ -131,8 +131,8 @@ impl<'a> DocView<'a> {
         self.cell().len()
     }
 
-    /// Returns the element `i` of an array, counted from 0, or `None` if there is none or the value
-    /// is of another kind. Skips the elements before it one by one.
+    /// Returns a view of the element `i` of an array, counted from 0. Returns `None` if there is no
+    /// such element or the value is of another kind. Skips the elements before it one by one.
     #[inline]
     pub fn element(self, i: usize) -> Option<DocView<'a>>
         ensures tree { option_map view_tree result ≡ slice_get (elements (view_tree self.entry)) i }
@@ -180,8 +180,8 @@ impl<'a> DocView<'a> {
         }
     }
 
-    /// Returns the key of the member `i` of an object, unescaped, counted from 0, or `None` if
-    /// there is none or the value is of another kind.
+    /// Returns the unescaped key of the member `i` of an object, counted from 0. Returns `None` if
+    /// there is no such member or the value is of another kind.
     #[inline]
     pub fn key(self, i: usize) -> Option<&'a str>
         ensures { option_map (λ s. s.now) result
@@ -193,8 +193,8 @@ impl<'a> DocView<'a> {
         }
     }
 
-    /// Returns a view of the key of the member `i` of an object, counted from 0, as of a string, or
-    /// `None` if there is none or the value is of another kind.
+    /// Returns a view of the key of the member `i` of an object, counted from 0, as of a string.
+    /// Returns `None` if there is no such member or the value is of another kind.
     #[inline]
     pub fn key_view(self, i: usize) -> Option<DocView<'a>>
         ensures tree { option_map view_tree result
@@ -209,8 +209,8 @@ impl<'a> DocView<'a> {
         }
     }
 
-    /// Returns the value of the member `i` of an object, counted from 0, or `None` if there is none
-    /// or the value is of another kind.
+    /// Returns a view of the value of the member `i` of an object, counted from 0. Returns `None`
+    /// if there is no such member or the value is of another kind.
     #[inline]
     pub fn pair_value(self, i: usize) -> Option<DocView<'a>>
         ensures tree { option_map view_tree result ≡ slice_get (values (view_tree self.entry)) i }

@@ -17,7 +17,7 @@ use json_text::Span;
 /// Its room is a number of values and keys, and a number of bytes of strings, keys and literals; an
 /// end needs none. Each method returns whether the event was recorded. It returns `false` if there
 /// is no room for the event, and after that for each later event, of which nothing is recorded.
-/// While all events were recorded, the next one has to be one that may follow in a JSON value: for
+/// While all events were recorded, the next one has to be one that may follow in a JSON value. For
 /// example, a key may follow only in an object. No method allocates.
 ///
 /// ```

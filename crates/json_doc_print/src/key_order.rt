@@ -16,7 +16,7 @@ use std::alloc::Global;
 use std::cmp::Ordering;
 
 /// A member of an object as an entry of an index that is sorted by keys. It keeps the first eight
-/// bytes of the key as a number: most keys differ in these, and then the keys themselves, which lie
+/// bytes of the key as a number. Most keys differ in these, and then the keys themselves, which lie
 /// far apart in memory, are not compared.
 #[derive(Clone, Copy)]
 pub struct IndexedMember {

@@ -1,5 +1,5 @@
 //! Prints packed documents, as they are or with the members of each object sorted by their keys
-//! (RFC 8259, section 4), and writes them by their tokens to anything that implements `Events`.
+//! (RFC 8259, section 4). Also writes them by their tokens to anything that implements `Events`.
 //! `json_value` prints by it the documents that its values have.
 //!
 //! ```

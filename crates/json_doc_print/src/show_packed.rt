@@ -20,7 +20,7 @@ use json_number::{Integer, Number};
 
 /// Writes the JSON text of the viewed value to `out` in a layout. `level` is the number of
 /// containers around it. Fails with the error of the sink, and with `NoMemory` if the nesting
-/// reaches 2^64 - 1 levels; `out` has gained a prefix of the text then.
+/// reaches 2^64 - 1 levels. Then `out` has gained a prefix of the text.
 pub fn show_document<W: Sink, L: Layout>(
     view: DocView<'_>,
     layout: L,
@@ -195,8 +195,8 @@ fn show_pairs<W: Sink, L: Layout>(
 
 /// Writes the elements of the viewed value to `out` as the text of an array; a value that is no
 /// array has none. `level` is the number of containers around the array. Fails with the error of
-/// the sink, and with `NoMemory` if the nesting reaches 2^64 - 1 levels; `out` has gained a prefix
-/// of the text then.
+/// the sink, and with `NoMemory` if the nesting reaches 2^64 - 1 levels. Then `out` has gained a
+/// prefix of the text.
 pub fn show_elements<W: Sink, L: Layout>(
     view: DocView<'_>,
     layout: L,
@@ -216,8 +216,8 @@ pub fn show_elements<W: Sink, L: Layout>(
 
 /// Writes the members of the viewed value to `out` as the text of an object; a value that is no
 /// object has none. `level` is the number of containers around the object. Fails with the error of
-/// the sink, and with `NoMemory` if the nesting reaches 2^64 - 1 levels; `out` has gained a prefix
-/// of the text then.
+/// the sink, and with `NoMemory` if the nesting reaches 2^64 - 1 levels. Then `out` has gained a
+/// prefix of the text.
 pub fn show_members<W: Sink, L: Layout>(
     view: DocView<'_>,
     layout: L,

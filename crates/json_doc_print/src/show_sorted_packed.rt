@@ -44,8 +44,8 @@ pub struct SortedLayout<L> {
 
 /// Writes the JSON text of the viewed value to `out`, the members of each object in it sorted by
 /// keys. `level` is the number of containers around the value. Fails with the error of the sink,
-/// and with `NoMemory` if memory runs out for an index of members or the levels reach 2^64 - 1;
-/// `out` has gained a prefix of the text then.
+/// and with `NoMemory` if memory runs out for an index of members or the levels reach 2^64 - 1.
+/// Then `out` has gained a prefix of the text.
 pub fn show_sorted_document<W: Sink, L: Layout>(
     view: DocView<'_>,
     layout: SortedLayout<L>,
@@ -142,11 +142,11 @@ fn keys_in_order(view: DocView<'_>) -> bool
     }
 }
 
-/// Writes the members of the viewed value to `out` as the text of an object, these members and
-/// those of each object in it sorted by their keys; a value that is no object has none. `level` is
-/// the number of containers around the object. Fails with the error of the sink, and with
-/// `NoMemory` if memory runs out for an index of members or the levels reach 2^64 - 1; `out` has
-/// gained a prefix of the text then.
+/// Writes the members of the viewed value to `out` as the text of an object, sorted by their keys,
+/// as are those of each object in it. A value that is no object has none. `level` is the number of
+/// containers around the object. Fails with the error of the sink, and with `NoMemory` if memory
+/// runs out for an index of members or the levels reach 2^64 - 1. Then `out` has gained a prefix of
+/// the text.
 #[cycle(shown_sorted)]
 pub fn show_sorted_members<W: Sink, L: Layout>(
     view: DocView<'_>,
@@ -231,10 +231,10 @@ fn show_by_places<W: Sink, L: Layout>(
 }
 
 /// Writes the elements of the viewed value to `out` as the text of an array, the members of each
-/// object in it sorted by their keys; a value that is no array has none. `level` is the number of
+/// object in it sorted by their keys. A value that is no array has none. `level` is the number of
 /// containers around the array. Fails with the error of the sink, and with `NoMemory` if memory
-/// runs out for an index of members or the levels reach 2^64 - 1; `out` has gained a prefix of the
-/// text then.
+/// runs out for an index of members or the levels reach 2^64 - 1. Then `out` has gained a prefix of
+/// the text.
 pub fn show_sorted_elements<W: Sink, L: Layout>(
     view: DocView<'_>,
     layout: SortedLayout<L>,

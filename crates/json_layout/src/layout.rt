@@ -10,9 +10,9 @@ use crate::escape::add_number;
 use crate::indent::{Indent, add_break};
 use json_io::{Sink, SinkResult};
 
-/// Writes what precedes an element or a key: a comma unless `first` is true, and then, if there is
-/// an indent, a line feed and `level` indents. `level` is the number of containers around the
-/// element or the key. Fails with the error of the sink, which has gained a prefix of that then.
+/// Writes what precedes an element or a key: a comma unless `first` is true, and, if there is an
+/// indent, a line feed and `level` indents. `level` is the number of containers around the element
+/// or the key. Fails with the error of the sink, which has gained a prefix of that then.
 #[inline(always)]
 pub fn add_start<W: Sink>(
     writer: &mut W,
@@ -103,9 +103,9 @@ fn add_byte_elements<W: Sink>(
 }
 
 /// Writes `bytes` as an array of numbers, one for each byte. If there is an indent, each element is
-/// on a line of its own after `level` indents, and the closing bracket of an array that is not
-/// empty after `outer` indents. Fails with the error of the sink, which has gained a prefix of that
-/// then.
+/// on a line of its own after `level` indents. The closing bracket is then on a line after `outer`
+/// indents, unless the array is empty. Fails with the error of the sink, which has gained a prefix
+/// of that then.
 pub fn add_byte_array<W: Sink>(
     writer: &mut W,
     indent: Option<Indent<'_>>,

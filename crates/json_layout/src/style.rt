@@ -5,9 +5,9 @@ ghost use Rattle.json_layout.specs.Indents.{indent_is_prop};
 
 use json_scan::ws_run;
 
-/// How a JSON text is printed: with an indent of whitespace and each element and member on a line
-/// of its own, or without whitespace between the tokens; and whether the members of each object are
-/// sorted by their keys.
+/// How a JSON text is printed. With an indent of whitespace each element and each member is on a
+/// line of its own; without one there is no whitespace between the tokens. The members of each
+/// object may be sorted by their keys.
 ///
 /// ```
 /// use json_layout::Style;

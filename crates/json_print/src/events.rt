@@ -38,8 +38,8 @@ pub enum ExpectedEvent {
 /// [`Serializer`](crate::Serializer). A scalar is one call; an array or an object is begun, gets
 /// its elements or members, and is ended. Each call has to be of a part that may come next.
 ///
-/// Errors are sticky: a call that meets an error, of what is written to or because memory runs out,
-/// returns it, and each later call returns it again and changes nothing.
+/// Errors are sticky: a call that meets an error returns it, and each later call returns it again
+/// and changes nothing.
 ///
 /// ```
 /// use json_print::{Events, Serializer};

@@ -107,8 +107,8 @@ impl<W: Sink, F: Formatter> Serializer<W, F> {
     }
 
     /// Returns the serializer with sorting: it writes the members of each object in the order of
-    /// the bytes of their unescaped keys, and those of equal keys in the order in which they came.
-    /// It must have written nothing yet. The members of an object wait in memory for its end.
+    /// the bytes of their unescaped keys. Members of equal keys keep their order. It must have
+    /// written nothing yet. The members of an object wait in memory for its end.
     pub fn sort_map_keys(mut self) -> Serializer<W, F>
         requires { IsFresh (out_of W.state self) }
         ensures sorts { out_of W.state result ≡ record (out_of W.state self) { sorts = true } }
@@ -119,10 +119,10 @@ impl<W: Sink, F: Formatter> Serializer<W, F> {
     }
 
     /// Returns the writer. If the calls gave all parts of a value, the writer has gained the
-    /// value's text in the layout of the formatter; if they gave some first parts of it, also up to
-    /// an error, a prefix of that text. For any formatter, it has gained the pieces of the calls
-    /// that reached it, in order. `Io` at the place `Writing` was returned exactly if a call of the
-    /// writer failed.
+    /// value's text in the layout of the formatter. If they gave some first parts of it, also up to
+    /// an error, it has gained a prefix of that text. For any formatter, it has gained the pieces
+    /// of the calls that reached it, in order. `Io` at the place `Writing` was returned exactly if
+    /// a call of the writer failed.
     pub fn into_inner(self) -> W
     where
         F: Drop,
