@@ -2,7 +2,7 @@
 ghost use Rattle.std.specs.Prelude.{◌≡◌, ◌≤◌, length};
 ghost use Rattle.json_buffer.specs.Leads.{lead_bytes};
 
-/// What has to be written before the next value or key, by its byte.
+/// The byte that has to be written before the next value or key: none, a comma or a colon.
 #[derive(Clone, Copy)]
 pub(crate) enum Lead {
     Nothing = 0,

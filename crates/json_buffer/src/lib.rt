@@ -1,5 +1,5 @@
-//! Compact texts in memory, to which tokens are written: each is appended with the comma or the
-//! colon before it.
+//! Writes a JSON text without whitespace to memory: a [`TextWriter`] appends each token with the
+//! comma or the colon before it.
 //!
 //! ```
 //! use json_buffer::TextWriter;

@@ -22,7 +22,7 @@ const AHEAD: usize = 16384;
 // The most bytes of a string for which room is made as if each byte took six.
 const LONG: usize = 1024;
 
-/// The bytes of a text, and room for more after them.
+/// The bytes of a text so far, and allocated room for more after them.
 #[derive(Drop)]
 pub(crate) struct TextBuffer {
     bytes: Vec<u8>,
@@ -35,7 +35,7 @@ impl TextBuffer {
     ghost use Rattle.json_buffer.specs.Leads.{lead_bytes};
     ghost use Rattle.json_buffer.specs.TextState.{PutsQuoted, buffered};
 
-    /// No bytes; it takes no memory yet.
+    /// Creates a buffer without bytes. It allocates nothing yet.
     pub(crate) fn new(alloc: Global) -> TextBuffer
         ensures { buffered result ≡ [] }
     {
@@ -46,7 +46,7 @@ impl TextBuffer {
         }
     }
 
-    /// The bytes of the text.
+    /// Returns the bytes of the text.
     pub(crate) fn into_vec(self) -> Vec<u8>
         ensures { result.items ≡ buffered self }
     {
@@ -75,7 +75,8 @@ impl TextBuffer {
         self.bytes.resize(ready, 0).is_ok()
     }
 
-    // The same, at no cost where there is room.
+    // Makes room for `more` more bytes as `grow` does, at no cost if there is room already. Returns
+    // `false` if memory runs out.
     #[inline(always)]
     fn has_room(&mut self, more: usize) -> bool
         ensures kept { buffered self.new ≡ buffered self.old }
@@ -145,7 +146,8 @@ impl TextBuffer {
         self.put_short(*lead, text.as_bytes()) || self.put_long(*lead, text)
     }
 
-    /// The same in line, so that a short string that is known beforehand is tested beforehand.
+    /// Does what [`TextBuffer::put_string`] does, in line: where `text` is short and known when
+    /// this is compiled, it is tested then.
     #[inline(always)]
     pub(crate) fn put_constant(&mut self, lead: Lead, text: &str) -> bool
         ensures { PutsQuoted lead text.now self.old self.new result }
@@ -182,7 +184,8 @@ impl TextBuffer {
         true
     }
 
-    /// The same with a minus before the digits.
+    /// Appends a minus and the digits of a number, and before them what precedes it. Returns
+    /// `false` where memory runs out.
     #[inline(always)]
     pub(crate) fn put_negative(&mut self, lead: Lead, number: u64) -> bool
         ensures { IsTrue result → buffered self.new

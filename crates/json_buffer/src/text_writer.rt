@@ -17,9 +17,9 @@ use json_io::{Error, ErrorCode, Place, Result};
 use json_print::Events;
 use std::alloc::Global;
 
-/// Writes the tokens of a value to a compact text in memory. A key or a value is appended with the
-/// comma or the colon before it. If memory runs out, a call fails with `NoMemory`, and so does
-/// every later one.
+/// Writes one JSON value to a text in memory without whitespace, by the methods of
+/// [`Events`](json_print::Events). Each value and each key is appended with the comma or the colon
+/// before it. If memory runs out, a call fails with `NoMemory`, and so does every later one.
 ///
 /// ```
 /// use json_buffer::TextWriter;
@@ -61,7 +61,7 @@ fn closing_bracket(kind: Kind) -> &'static [u8]
 }
 
 impl TextWriter {
-    /// Returns a writer to which no token was written. It takes no memory yet.
+    /// Creates a writer with an empty text. It allocates nothing until the first token is written.
     pub fn new(alloc: Global) -> TextWriter
         ensures starts { text_state result ≡ texts.empty_text }
         ensures fresh { texts.writer_error result ≡ None }
@@ -74,7 +74,8 @@ impl TextWriter {
         }
     }
 
-    /// Returns the text so far.
+    /// Returns the bytes of the text so far: a whole JSON text if all parts of a value were written
+    /// without an error.
     pub fn into_vec(self) -> Vec<u8>
         ensures { result.items ≡ (text_state self).bytes }
     {
@@ -163,8 +164,8 @@ impl TextWriter {
         Ok(())
     }
 
-    // The same in line: a key is mostly a constant, which is tested at compile time and stored as
-    // a few words.
+    // Appends a string, after which `next` may follow, in line: a key is mostly a constant, which
+    // is tested at compile time and stored as a few words.
     #[inline(always)]
     fn constant(&mut self, text: &str, next: Lead) -> Result<()>
         ensures { texts.PutsText (texts.string_put next) self.old self.new text.now result }

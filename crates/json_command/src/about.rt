@@ -22,7 +22,7 @@ fn asks_for_version(argument: &str) -> bool
     argument == "--version" || argument == "-V"
 }
 
-/// What a program says of itself: its help, its version, and where to look for help.
+/// What a program says of itself: its help, its version, and a hint where to look for help.
 ///
 /// ```
 /// use json_command::{About, Status};
@@ -40,17 +40,17 @@ fn asks_for_version(argument: &str) -> bool
 /// ```
 #[derive(Clone, Copy, Debug)]
 pub struct About {
-    /// What `--help` and `-h` print.
+    /// The text that `--help` and `-h` print.
     pub help: &'static str,
-    /// What `--version` and `-V` print.
+    /// The text that `--version` and `-V` print.
     pub version: &'static str,
-    /// What is added to the error of invalid arguments.
+    /// The text that is added to the error of invalid arguments.
     pub hint: &'static str,
 }
 
 impl About {
-    /// Returns the text that the arguments ask for: the help for `--help` or `-h` alone, the version
-    /// for `--version` or `-V` alone, and `None` for all else.
+    /// Returns the text that the arguments ask for: the help if `--help` or `-h` is the only
+    /// argument, the version if `--version` or `-V` is. Returns `None` for all other arguments.
     pub fn text_asked(&self, arguments: &Words) -> Option<&'static str>
         ensures { option_map (λ s. s.now) result
             ≡ text_asked self.now.help.now self.now.version.now arguments.now }
@@ -68,8 +68,9 @@ impl About {
         None
     }
 
-    /// Writes the text that the arguments ask for, flushed, and returns the status: `Success`,
-    /// `WriteFailed` or `OutOfMemory`. Returns `None`, and writes nothing, where they ask for none.
+    /// Writes the text that the arguments ask for, as [`About::text_asked`] returns it, and flushes
+    /// the sink. Returns the status of that: `Success`, `WriteFailed` or `OutOfMemory`. Returns
+    /// `None`, and writes nothing, if they ask for no text.
     pub fn say_asked<K: Sink>(&self, arguments: &Words, sink: &mut K) -> Option<Status>
         ensures said { IfSome result (SaysAsked self.now.help.now self.now.version.now arguments.now
             (K.state sink.old) (K.state sink.new)) }
@@ -81,7 +82,9 @@ impl About {
         Some(write_with_status(sink, text))
     }
 
-    /// Adds the hint where the status is that of invalid arguments, and else writes nothing.
+    /// Writes the hint to `errs` if `status` is 2, the status of invalid arguments, and nothing for
+    /// any other status. No error is returned: if a write fails, `errs` has gained a prefix of the
+    /// hint.
     pub fn add_hint<E: Sink>(&self, status: u8, errs: &mut E)
         ensures added { status ≡ 2
             → Reports self.now.hint.now (E.state errs.old) (E.state errs.new) }

@@ -20,14 +20,14 @@ use std::rc::Rc;
 use std::rt::{Stdin, Stdout};
 use std::{env, io};
 
-/// The error of arguments that are not valid.
+/// The error of invalid arguments, `BadWords` without a place.
 pub const BAD_WORDS: Error = Error {
     code: ErrorCode::BadWords,
     place: Place::None,
 };
 
-/// Returns the error of an argument that could not be read as it has to be: `NoMemory` where memory
-/// ran out, and else `BadWords`.
+/// Returns the error of an argument that could not be read, where `code` says why: `NoMemory` stays
+/// `NoMemory`, and every other code becomes [`BAD_WORDS`].
 pub fn arguments_error(code: ErrorCode) -> Error
     ensures either { (result ≡ no_memory) ⊎ ((result ≡ bad_words) × (code ≢ NoMemory)) }
     ensures other { code ≢ NoMemory → result ≡ bad_words }
@@ -41,9 +41,9 @@ pub fn arguments_error(code: ErrorCode) -> Error
     }
 }
 
-/// Returns the document of an argument that is a JSON text (RFC 8259), read by the usual rules: of
-/// at most 254 levels, and keys may repeat. Fails with `BadWords` where it is none or has more than
-/// 4,294,967,295 bytes, and with `NoMemory` where memory runs out.
+/// Reads an argument that is a JSON text (RFC 8259) of at most 254 levels into a document; names
+/// may repeat in an object. Fails with `BadWords` if it is no such text or has more than
+/// 4,294,967,295 bytes, and with `NoMemory` if memory runs out.
 ///
 /// ```
 /// use json_command::{BAD_WORDS, read_argument};
@@ -67,7 +67,8 @@ pub fn read_argument(alloc: Global, argument: &str) -> json_io::Result<Rc<Doc>>
     }
 }
 
-/// The arguments of the command line and the standard streams.
+/// What a program has of its surroundings: the arguments of the command line and the three standard
+/// streams.
 ///
 /// ```
 /// use json_command::{About, Console};
@@ -77,23 +78,25 @@ pub fn read_argument(alloc: Global, argument: &str) -> json_io::Result<Rc<Doc>>
 /// ```
 #[derive(Drop)]
 pub struct Console {
-    /// The arguments, without the program's name.
+    /// The arguments of the command line, without the program's name.
     pub arguments: Words,
     /// Standard input.
     pub source: StdSource<NotedStream<Stdin>>,
     /// Standard output.
     pub sink: StdSink<NotedStream<Stdout>>,
-    /// Standard error. It takes reports and shows none once nobody reads standard output any more.
+    /// Standard error, for reports. It writes nothing once nobody reads standard output any more,
+    /// as in `| head`.
     pub errs: StdSink<ErrorStream>,
     read: Note,
     written: Note,
 }
 
 impl Console {
-    /// Opens the standard streams and copies the arguments. Returns a status where the program is
-    /// over with that: `OutOfMemory` where memory runs out; `NoArguments` where the arguments
-    /// cannot be read, for example because one is not UTF-8; and where they ask for the help or the
-    /// version, which is written then, the status of that.
+    /// Opens the standard streams and copies the arguments. If they ask for the help or the version
+    /// of `about`, writes that to standard output and returns the status of that as the error.
+    /// Fails with `OutOfMemory` if memory runs out, and with `NoArguments` if the arguments cannot
+    /// be read, for example because one is not UTF-8. A program ends with the status that is
+    /// returned as the error.
     pub fn open(rt: &HostRuntime, about: &About) -> Result<Console, Status> {
         let mut arguments = Words::new(rt.alloc());
         for argument in env::args(rt).map_err(unread)?.skip(1) {
@@ -129,8 +132,9 @@ impl Console {
         Some((failure, reason))
     }
 
-    /// Explains the status of a run in which a standard stream failed: writes to standard error
-    /// which one, and why, where the system gave a reason. Writes nothing for any other status.
+    /// Writes to standard error why a run ended with `ReadFailed` or `WriteFailed`, if the system
+    /// gave a reason that a user can tell from others. `program` is the name that begins the line.
+    /// Writes nothing in any other case, nor if memory runs out for the line.
     pub fn explain_failure(&mut self, alloc: Global, program: &str, status: u8) {
         let Some((failure, reason)) = self.failure(status) else {
             return;

@@ -12,13 +12,14 @@ use json_text::Rules;
 use std::alloc::Global;
 use std::rc::Rc;
 
-/// The greatest number of bytes that are read.
+/// The greatest number of bytes of an input.
 pub(crate) const MAX_BYTES: usize = 4_294_967_295;
 
-/// Reads all that the source has left and returns its document by the rules (RFC 8259). Fails with
-/// `Io` at `Reading` where the source fails, `TooLarge` where it has more than 4,294,967,295 bytes,
-/// `InvalidUTF8` and each fault of the grammar by the rules at its offset, and `NoMemory` where
-/// memory runs out.
+/// Reads all that the source has left as one JSON text (RFC 8259), and returns its document.
+/// `rules` say how many levels the text may have, and whether names may repeat in an object. Fails
+/// with `Io` at the place `Reading` if the source fails, and with `TooLarge` if it has more than
+/// 4,294,967,295 bytes. Fails with `InvalidUTF8` or the fault of the text by the rules, at its
+/// offset, and with `NoMemory` if memory runs out.
 pub fn read_document_from<S: Source>(alloc: Global, source: &mut S, rules: Rules) -> Result<Rc<Doc>>
     ensures read { IfOk result (λ d. ReadsInput (rules_of rules)
         (S.state source.old) (S.state source.new) (doc_tree d.value (doc_root d.value))) }

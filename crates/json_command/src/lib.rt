@@ -1,6 +1,6 @@
 //! What the programs of this repository share: reading a document from a source, printing a value
-//! to a sink, reporting errors, exit statuses, numeric options, help and version, and the opening
-//! of the command line.
+//! to a sink, reporting errors, exit statuses, numeric options, help and version, and opening the
+//! command line and the standard streams.
 //!
 //! ```
 //! use json_command::{print_value, read_document_from};

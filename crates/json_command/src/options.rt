@@ -23,8 +23,8 @@ fn number_in(digits: &str, max: u32) -> Option<u32>
     }
 }
 
-/// Returns the number that an option asks for: of `--depth=3` by the name `--depth` it is 3. `None`
-/// where the option has another name, or what follows the first `=` is no decimal number from 0 to
+/// Returns the number of an option such as `--depth=3`: 3 if `name` is `--depth`. Returns `None` if
+/// the option has another name, or if what follows the first `=` is no decimal number from 0 to
 /// `max` without leading zeros.
 ///
 /// ```

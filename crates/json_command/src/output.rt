@@ -93,10 +93,11 @@ fn sent<W: Sink>(
     flushed(out, written)
 }
 
-/// Writes the text of the value's tree in the style by pieces of at most 8,192 bytes, and flushes
-/// the sink. Fails with `Io` at `Writing` where the sink fails, and with `NoMemory` where memory
-/// runs out; the sink gained a prefix of the text then. If members are not sorted, memory runs out
-/// only before anything is written, in the sink, or for a text of 2^64 - 1 bytes or more.
+/// Writes the JSON text of a value to the sink in a style, by pieces of at most 8,192 bytes, and
+/// flushes the sink. Fails with `Io` at the place `Writing` if the sink fails, and with `NoMemory`
+/// if memory runs out; the sink has gained a prefix of the text then. If members are not sorted,
+/// memory runs out only before anything is written, in the sink, or for a text of 2^64 - 1 bytes or
+/// more.
 pub fn print_value<K: Sink>(
     alloc: Global,
     value: &Value,
@@ -115,8 +116,9 @@ pub fn print_value<K: Sink>(
     outcome
 }
 
-/// Writes a text and flushes the sink. Fails with `Io` at `Writing` where the sink fails, and with
-/// `NoMemory` where it finds no memory; the sink gained a prefix of the text then.
+/// Writes a text to the sink and flushes it. Fails with `Io` at the place `Writing` if the sink
+/// fails, and with `NoMemory` if the sink runs out of memory; it has gained a prefix of the text
+/// then.
 pub fn write_text<K: Sink>(sink: &mut K, text: &[u8]) -> Result<()>
     ensures prints { Prints (K.state sink.old) (K.state sink.new) text.now result }
     ensures ran_out { IsErrOf result no_memory

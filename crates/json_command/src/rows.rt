@@ -1,11 +1,11 @@
-//! Worked rows of a program: a table of inputs and arguments, each with the status and the texts
-//! that are the program's.
+//! Runs a program on worked rows: a table of inputs and arguments, each with the status and the
+//! texts that the program has to return and to write.
 //!
 //! A row is a line of fields, each closed by `|`: the input, the status, the output, the errors
-//! without their last line break, and then the arguments. `«N PIECE»` means N times the piece;
-//! of the first, third and fourth field `%XX` is a byte. A line that begins with `#` says what
-//! follows. Where the status is that of invalid arguments the source fails at its first call, so a
-//! program that reads it has another status.
+//! without their last line break, and then the arguments. `«N PIECE»` stands for N times the piece,
+//! and in the first, third and fourth field `%XX` for a byte. A line that begins with `#` is a
+//! comment. If the status is that of invalid arguments, the source fails at its first call: so a
+//! program that reads it returns another status.
 //!
 //! ```
 //! use json_command::rows::differing_rows;
@@ -120,8 +120,11 @@ where
         && errs.as_slice() == row.errors.as_slice()
 }
 
-/// Runs a program on worked rows and returns how many have another result, or cannot be read. The
-/// source gives at most `at_once` bytes a call. Fails with `NoMemory` if memory runs out for a row.
+/// Runs a program on each worked row, and returns the number of rows with another status or other
+/// texts than the program's. A row that cannot be read counts too. `run` is the program, which
+/// returns its status. Its arguments are the allocator, the words of the row, the source, the sink
+/// and the sink for errors. The source returns at most `at_once` bytes a call, at least one. Fails
+/// with `NoMemory` if memory runs out for a row.
 pub fn differing_rows<F>(alloc: Global, rows: &str, at_once: usize, run: F) -> Result<u32>
 where
     F: Fn(Global, &Words, &mut FakeSource<'_>, &mut VecSink, &mut VecSink) -> u8,

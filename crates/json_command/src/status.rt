@@ -4,7 +4,7 @@ ghost use Rattle.json_command.specs.Statuses.{status_number, error_status};
 
 use json_io::{Error, ErrorCode, Place};
 
-/// The status that a program of this repository ends with.
+/// The exit status of a program of this repository.
 ///
 /// ```
 /// use json_command::Status;
@@ -15,37 +15,39 @@ use json_io::{Error, ErrorCode, Place};
 /// ```
 #[derive(Clone, Copy, Debug, PartialEq, Eq)]
 pub enum Status {
-    /// All was done.
+    /// All that was asked for was done.
     Success = 0,
     /// The input, or a line of it, is not valid.
     InvalidInput = 1,
     /// The arguments are not valid.
     InvalidArguments = 2,
-    /// A change that is asked for does not apply to the input.
+    /// A change that is asked for does not apply to the input, for example because its path leads
+    /// nowhere.
     EditFailed = 3,
-    /// A read failed.
+    /// A read of the input failed.
     ReadFailed = 4,
-    /// A write failed.
+    /// A write of the output failed.
     WriteFailed = 5,
     /// Memory ran out.
     OutOfMemory = 6,
-    /// The input has more bytes than are read.
+    /// The input has more bytes than the program reads.
     TooMuchInput = 7,
     /// The arguments could not be read, for example because one is not UTF-8.
     NoArguments = 8,
 }
 
 impl Status {
-    /// Returns the number of the status, from 0 to 8.
+    /// Returns the number of the status, from 0 to 8, with which a program exits.
     pub fn number(self) -> u8
         ensures { result ≡ status_number self }
     {
         self as u8
     }
 
-    /// Returns the status of an error: `OutOfMemory`, `ReadFailed` or `WriteFailed` by its code and
-    /// place, `InvalidArguments` for `BadWords`, `EditFailed` for `NotFound` and `TypeUnmatched`,
-    /// and `InvalidInput` for every other.
+    /// Returns the status of a program that ends with this error. It is `OutOfMemory` for
+    /// `NoMemory`, and for `Io` `WriteFailed` at the place `Writing` and else `ReadFailed`. It is
+    /// `InvalidArguments` for `BadWords`, `EditFailed` for `NotFound` and `TypeUnmatched`, and
+    /// `InvalidInput` for every other code.
     pub fn of_error(error: &Error) -> Status
         ensures { result ≡ error_status error.now.code error.now.place }
     {

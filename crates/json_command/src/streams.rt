@@ -5,11 +5,11 @@ use std::io::{ErrorKind, Read, Write};
 use std::rc::Rc;
 use std::rt::Stderr;
 
-/// Why the last call that failed did so, which a stream and those who ask it share.
+/// The kind of error of the last call of a stream that failed; the stream and its readers share it.
 pub(crate) type Note = Rc<Cell<Option<ErrorKind>>>;
 
-/// A stream of the system that notes why a call failed, since a source or a sink over it says only
-/// that one did.
+/// A standard stream that keeps why its last failed call failed, since a source or a sink over it
+/// says only that a call did.
 #[derive(Drop)]
 pub struct NotedStream<T> {
     stream: T,
@@ -17,7 +17,7 @@ pub struct NotedStream<T> {
 }
 
 impl<T> NotedStream<T> {
-    /// Returns the stream that notes there.
+    /// Creates a stream that writes its notes to `note`.
     pub(crate) fn new(stream: T, note: Note) -> NotedStream<T> {
         NotedStream { stream, note }
     }
@@ -51,7 +51,7 @@ impl<T: Write> Write for NotedStream<T> {
     }
 }
 
-/// Standard error. It writes nothing once nobody reads standard output any more, as in `| head`.
+/// Standard error, which writes nothing once nobody reads standard output any more, as in `| head`.
 #[derive(Drop)]
 pub struct ErrorStream {
     stream: Stderr,
@@ -59,7 +59,7 @@ pub struct ErrorStream {
 }
 
 impl ErrorStream {
-    /// Returns the stream, with the note of standard output.
+    /// Creates the stream; `output` is the note of standard output.
     pub(crate) fn new(stream: Stderr, output: Note) -> ErrorStream {
         ErrorStream { stream, output }
     }
@@ -78,7 +78,8 @@ impl Write for ErrorStream {
     }
 }
 
-/// Returns the reason why a call of a stream failed, if it is one that a user can tell from others.
+/// Returns the reason why a call of a stream failed, in a few words, or `None` if it is none that a
+/// user can tell from others.
 pub(crate) fn reason_of(kind: ErrorKind) -> Option<&'static str> {
     match kind {
         ErrorKind::IsADirectory => Some("it is a folder"),

@@ -17,7 +17,7 @@ use json_grammar::{ExpectedPart, Kind};
 use json_text::internal::{ContainerStack, Cursor, TokenRead, step};
 use json_text::{Event, Fault};
 
-// Reads the next event of a text as `step` does, and records it. Each use has a copy of its own.
+// Reads the next event of a text as `step` does, and records it. Each `USE` is a copy of its own.
 #[inline(always)]
 fn advance<'a, const USE: u8>(
     visitor: &mut DocumentVisitor,
@@ -54,8 +54,8 @@ fn advance<'a, const USE: u8>(
     }
 }
 
-// The same, by a copy for each of what may follow, and after a value for each kind of container, so
-// that each of them leaves out what cannot follow there.
+// Does what `advance` does, by a copy of it for each part that may come next, and after a value for
+// each kind of container, so that each copy leaves out what cannot come next there.
 #[inline(always)]
 pub(crate) fn advance_by_expected<'a>(
     visitor: &mut DocumentVisitor,

@@ -2,14 +2,14 @@
 
 use crate::json_type::JsonType;
 
-/// One node of a document, or a key of an object.
+/// One cell of a [`Doc`](crate::Doc): a value, or the key of a member.
 ///
-/// An integer of `u64` or `i64` is kept by value (RFC 8259, section 6), every other number as its
-/// literal. A literal and a text name bytes of the document's text, by their start and their
-/// length. The length of a container counts its elements or members. Its descendants follow its
-/// cell, in the order of the JSON text, and its link is the position after the last of them, or
-/// after its own cell if it is empty. The layout of cells is private to this crate; views read
-/// them.
+/// A number that is an integer of `u64` or `i64` is kept by value (RFC 8259, section 6), every
+/// other number by its literal. A literal, a string and a key are `len` bytes of the document's
+/// text from the offset `start` on. The `len` of a container counts its elements or members. Its
+/// descendants follow its cell, in the order of the JSON text. Its `link` is the position after the
+/// last of them, or after its own cell if it is empty. The layout of cells is private to this
+/// crate: programs read values by [`DocView`](crate::DocView).
 ///
 /// ```
 /// use json_doc::{Cell, read_document};
@@ -19,17 +19,21 @@ use crate::json_type::JsonType;
 /// ```
 #[derive(Clone, Copy, Debug, PartialEq, Eq)]
 pub enum Cell {
+    /// `null`.
     Null,
+    /// `true` or `false`.
     Bool(bool),
-    /// An integer from 0 on.
+    /// An integer from 0 on, by value.
     Unsigned(u64),
-    /// An integer below 0.
+    /// An integer below 0, by value.
     Negative(i64),
-    /// The literal of a number that is no such integer.
+    /// Any other number, such as `1.0` or `-0`, by its literal in the document's text.
     Raw { start: u32, len: u32 },
-    /// A string, or a key.
+    /// A string or a key, by its unescaped bytes in the document's text.
     Str { start: u32, len: u32 },
+    /// An array of `len` elements. `link` is the position after its last descendant.
     Array { link: u32, len: u32 },
+    /// An object of `len` members. `link` is the position after its last descendant.
     Object { link: u32, len: u32 },
 }
 

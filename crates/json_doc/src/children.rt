@@ -5,7 +5,8 @@ ghost use Rattle.json_doc.specs.Places.{AllBelow};
 use crate::doc::Doc;
 use crate::view::DocView;
 
-/// The elements of an array, or the values of an object's pairs, in order.
+/// An iterator over the elements of an array, or over the values of an object's members, each as a
+/// view, in the order of the JSON text. [`DocView::children`] creates it.
 ///
 /// ```
 /// use json_doc::read_document;
@@ -51,7 +52,7 @@ impl<'a> DocChildren<'a> {
         }
     }
 
-    /// Returns how many are left.
+    /// Returns the number of elements or values that the iterator has not returned yet.
     #[inline]
     pub fn len(&self) -> usize
         ensures { result ≡ length (children_left self.now) }

@@ -5,11 +5,12 @@ ghost use Rattle.json_doc.specs.Shape.{CellsInPlace};
 use crate::cell::Cell;
 use crate::view::DocView;
 
-/// A packed document: one cell for each node and each key, and the texts, keys and literals in a
-/// row.
+/// A packed document: a JSON value as an array of [`Cell`]s, one for each value and each key. One
+/// text has all strings, keys and literals of it, one after another.
 ///
-/// The cells are in the order of the JSON text, each container's before those of its elements or
-/// its keys and values. Each literal is a number (RFC 8259, section 6).
+/// The cells are in the order of the JSON text: that of a container precedes those of its elements,
+/// or of its keys and values. Each literal is a number (RFC 8259, section 6). A position in the
+/// document is the index of a cell.
 ///
 /// ```
 /// use json_doc::read_document;
@@ -33,7 +34,7 @@ impl Doc {
     ghost use Rattle.json_doc.specs.Seen.{view_doc, view_place, view_tree};
     ghost use Rattle.json_doc.specs.Places.{AllBelow, place_after, place_from};
 
-    /// Returns the cells, one for each node and each key.
+    /// Returns the cells, one for each value and each key, in the order of the JSON text.
     #[inline]
     pub fn cells(&self) -> &[Cell]
         ensures { result.now ≡ doc_cells self.now }
@@ -41,7 +42,8 @@ impl Doc {
         &self.cells
     }
 
-    /// Returns the texts, keys and literals in the order of the JSON text, unescaped.
+    /// Returns the strings, keys and literals one after another, unescaped and with nothing between
+    /// them, in the order of the JSON text. Cells refer to it by offset and length.
     #[inline]
     pub fn text(&self) -> &str
         ensures { result.now ≡ doc_text self.now }
@@ -49,7 +51,7 @@ impl Doc {
         self.text.as_str()
     }
 
-    /// Returns the place of the root's cell.
+    /// Returns the position of the root's cell: its index in [`Doc::cells`].
     #[inline]
     pub fn root(&self) -> u32
         ensures place { result ≡ doc_root self.now }
@@ -58,7 +60,7 @@ impl Doc {
         self.root
     }
 
-    /// Returns a view of the whole document.
+    /// Returns a view of the root, the value of the whole JSON text.
     #[inline]
     pub fn view(&self) -> DocView<'_>
         ensures doc { view_doc result ≡ self.now }
@@ -68,7 +70,8 @@ impl Doc {
         self.view_at(self.root)
     }
 
-    /// Returns the cell at a position, which has to be below the number of cells.
+    /// Returns a view of what is at the position `at`, an index in [`Doc::cells`], which has to be
+    /// below the number of cells. A key is seen as a string.
     #[inline]
     pub fn view_at(&self, at: u32) -> DocView<'_>
         requires { at < length (doc_cells self.now) }

@@ -18,8 +18,8 @@ use json_text::Rules;
 use std::alloc::Global;
 use std::mem;
 
-/// Room for documents that are read one after another: what a document took serves the next one. So
-/// texts of one size take memory for the first of them alone.
+/// Memory for documents that are read one after another: each document is read into the memory of
+/// the one before. So texts of one size allocate for the first of them alone.
 ///
 /// ```
 /// use json_doc::DocumentRoom;
@@ -35,14 +35,17 @@ pub struct DocumentRoom {
 }
 
 impl DocumentRoom {
-    /// Returns room for nothing yet. It takes no memory.
+    /// Creates a room that has no document and no memory yet; [`DocumentRoom::read`] allocates by
+    /// `alloc`.
     pub fn new(alloc: Global) -> DocumentRoom {
         DocumentRoom { alloc, doc: None }
     }
 
-    /// Reads the document of a JSON text of at most 4,294,967,295 bytes by rules, as
-    /// `read_document_with` does, in place of the one before. Fails as that call does; then the
-    /// room is given back.
+    /// Reads a JSON text of at most 4,294,967,295 bytes into a document, in place of the document
+    /// before, and lends it until the room is used again. `rules` say how many levels the text may
+    /// have, and whether names may repeat in an object. Fails with the first error of the text by
+    /// the rules, at its place, as [`read_document_with`](crate::read_document_with) does, and with
+    /// `NoMemory` if memory runs out. Then the room has no document, and its memory is freed.
     ///
     /// ```
     /// use json_doc::DocumentRoom;

@@ -19,10 +19,11 @@ use std::rc::Rc;
 // The place of the container around the outermost one.
 const NOWHERE: u32 = u32::MAX;
 
-/// Packs a document from the events of its tree, and takes no memory for an event.
+/// Builds a [`Doc`] from the events of its tree, the parts of a JSON value from left to right, in
+/// room that is allocated beforehand. [`JsonVisitor`] has a method for each event; none allocates.
 ///
-/// Each node is written once, in the order of the events. An open container's cell keeps the place
-/// and the count of the container around it until it ends.
+/// Each value and each key is written once, in the order of the events. The cell of an open
+/// container keeps the position and the count of the container around it until it ends.
 ///
 /// ```
 /// use json_doc::{DocumentVisitor, JsonVisitor};
@@ -62,9 +63,9 @@ impl DocumentVisitor {
     ghost use Rattle.json_doc.specs.OpenCells.{outer_place, outer_count};
     ghost use Rattle.json_doc.specs.declared.cell.Cell.TheVariants.{Null as null_cell};
 
-    /// Creates a builder with room for `(text_len + 1) / 2` nodes and keys and `text_len` bytes of
-    /// text, as a JSON text of `text_len` bytes may need. `text_len` has to be at most
-    /// 4,294,967,295. Fails with `NoMemory` if memory runs out.
+    /// Creates a builder with room for all that a JSON text of `text_len` bytes may need. That is
+    /// `(text_len + 1) / 2` values and keys, and `text_len` bytes of strings, keys and literals.
+    /// `text_len` has to be at most 4,294,967,295. Fails with `NoMemory` if memory runs out.
     pub fn new(alloc: Global, text_len: usize) -> Result<DocumentVisitor>
         requires { text_len < 2 ^ 32 }
         ensures room { IfOk result (λ v. ⟦<DocumentVisitor as JsonVisitor>⟧.state v
@@ -81,8 +82,8 @@ impl DocumentVisitor {
         DocumentVisitor::with_room(alloc, (text_len + 1) / 2, text_len)
     }
 
-    /// Creates a builder with room for `cells` nodes and keys and `text_len` bytes of text, each at
-    /// most 4,294,967,295. Fails with `NoMemory` if memory runs out.
+    /// Creates a builder with room for `cells` values and keys and `text_len` bytes of strings,
+    /// keys and literals, each at most 4,294,967,295. Fails with `NoMemory` if memory runs out.
     ///
     /// ```
     /// use json_doc::{DocumentVisitor, JsonVisitor};
@@ -310,9 +311,9 @@ impl DocumentVisitor {
         false
     }
 
-    /// Returns whether the key that was recorded last is an earlier key of its object too (RFC
-    /// 8259, section 4). The last event has to be a recorded key. Compares each key of the object
-    /// once.
+    /// Returns whether the key that was recorded last is also an earlier key of the same object
+    /// (RFC 8259, section 4). The last event has to be a recorded key. Compares it with each
+    /// earlier key of the object until one is equal.
     ///
     /// ```
     /// use json_doc::{DocumentVisitor, JsonVisitor};
@@ -336,8 +337,8 @@ impl DocumentVisitor {
         self.has_key(self.parent as usize + 1, self.cells.len() - 1)
     }
 
-    /// Returns the document of the tree whose events were recorded, which has to be whole. Fails
-    /// with `NoMemory` if memory runs out.
+    /// Returns the document of the value whose events were recorded. They have to be all events of
+    /// one value. `alloc` allocates the `Rc`. Fails with `NoMemory` if memory runs out.
     pub fn finish(self, alloc: Global) -> Result<Rc<Doc>>
         requires { (t : Tree) × ⟦<DocumentVisitor as JsonVisitor>⟧.holds self (tokens t) }
         ensures ok { IfOk result (λ d. (t : Tree)

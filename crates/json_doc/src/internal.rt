@@ -1,3 +1,3 @@
-//! A number by which keys are compared, for the other crates of the library. No program calls it.
+//! What only the other crates of the library call: a number by which they compare keys.
 
 pub use crate::open_keys::front_number;

@@ -1,5 +1,5 @@
-//! Packed documents of JSON (RFC 8259): a text is read once into an array of cells, and views read
-//! them without a copy.
+//! Packed documents of JSON (RFC 8259). [`read_document`] reads a JSON text once into an array of
+//! cells, a [`Doc`], and a [`DocView`] reads a value there without a copy.
 //!
 //! ```
 //! use json_doc::{JsonType, read_document};

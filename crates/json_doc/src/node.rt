@@ -4,7 +4,9 @@ use crate::children::DocChildren;
 use crate::pairs::DocPairs;
 use json_number::Number;
 
-/// A value of a document, by its kind (RFC 8259, section 3). Nothing of it takes memory.
+/// A value of a document by its kind (RFC 8259, section 3), to match on.
+/// [`DocView::node`](crate::DocView::node) returns it. It borrows from the document and allocates
+/// nothing.
 ///
 /// ```
 /// use json_doc::{DocNode, read_document};
@@ -17,16 +19,18 @@ use json_number::Number;
 /// ```
 #[derive(Drop)]
 pub enum DocNode<'a> {
+    /// `null`.
     Null,
+    /// `true` or `false`.
     Boolean(bool),
-    /// An integer of `u64` or `i64`.
+    /// A number that is an integer of `u64` or `i64`.
     Number(Number),
-    /// The literal of a number that is no such integer.
+    /// Any other number, such as `2.50` or `-0`, by its literal.
     Raw(&'a str),
-    /// The text of a string.
+    /// A string, by its unescaped text.
     String(&'a str),
-    /// The elements of an array.
+    /// An array, by an iterator over its elements.
     Array(DocChildren<'a>),
-    /// The pairs of an object.
+    /// An object, by an iterator over its members.
     Object(DocPairs<'a>),
 }

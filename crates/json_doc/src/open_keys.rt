@@ -14,7 +14,7 @@ use std::borrow::CowStr;
 use std::collections::BTreeSet;
 use std::mem;
 
-/// How many names of an object are compared one by one.
+/// The greatest number of names of an object that are compared one by one.
 const FEW: usize = 16;
 
 // A byte, or 0 after the end.
@@ -28,9 +28,9 @@ fn byte_or_zero(bytes: &[u8], at: usize) -> u8
     }
 }
 
-/// Returns the number of a name's first eight bytes, the first byte the highest, with zeros after
-/// the name's end. Of two names whose numbers differ the one of the lower number has the lower
-/// bytes.
+/// Returns the first eight bytes of a name as a big-endian number, with zero bytes after the end of
+/// a shorter name. If the numbers of two names differ, the name with the smaller number comes first
+/// in the order of bytes. If they are equal, the names themselves have to be compared.
 ///
 /// ```
 /// use json_doc::internal::front_number;
@@ -54,7 +54,7 @@ pub fn front_number(name: &str) -> u64
     ])
 }
 
-/// The names of a container around the innermost.
+/// The names of an open container around the innermost one.
 #[derive(Drop)]
 pub struct OuterKeys<'a> {
     // where its few names begin
@@ -63,7 +63,7 @@ pub struct OuterKeys<'a> {
 }
 
 /// The names so far of each open container. The first names of an object are in a list and are
-/// compared one by one; all others are in an ordered set, so that a name of an object of n members
+/// compared one by one. All others are in an ordered set, so that a name of an object of n members
 /// takes no more than some log n comparisons. There the number of its first bytes precedes it, so
 /// that few comparisons look at the name itself, and it is borrowed from the text, unless it has
 /// escapes.
@@ -81,7 +81,7 @@ pub struct OpenKeys<'a> {
 }
 
 impl<'a> OpenKeys<'a> {
-    /// Creates the names of no open container. Takes no memory.
+    /// Creates a value without names, where no container is open. Allocates nothing.
     pub fn new(alloc: Global) -> OpenKeys<'a>
         ensures { HasNames result [] }
     {
@@ -94,7 +94,8 @@ impl<'a> OpenKeys<'a> {
         }
     }
 
-    /// Begins a container. Fails with `NoMemory` if memory runs out.
+    /// Begins a container, which has no names yet, in the innermost one. Fails with `NoMemory` if
+    /// memory runs out.
     pub fn begin(&mut self) -> Result<()>
         ensures ok { OnOk result ((all : List Keys) → HasNames self.old all
             → HasNames self.new ([] ∷ all)) }
@@ -107,7 +108,7 @@ impl<'a> OpenKeys<'a> {
         Ok(())
     }
 
-    /// Ends the innermost container.
+    /// Ends the innermost container and forgets its names.
     pub fn end(&mut self)
         ensures { (all : List Keys) → HasNames self.old all → HasNames self.new (outer_keys all) }
     {
@@ -138,7 +139,7 @@ impl<'a> OpenKeys<'a> {
                 .contains(&(front_number(name), CowStr::Borrowed(name)))
     }
 
-    // Whether the innermost container had the name. If not, the name goes into the set.
+    // Returns whether the innermost container has the name. If not, the name goes into the set.
     fn take_into_set(&mut self, name: CowStr<'a>) -> Result<bool>
         requires some { HasSomeNames self.old }
         requires inside { 0 < length self.old.outer.items }
@@ -154,7 +155,8 @@ impl<'a> OpenKeys<'a> {
         Ok(!added)
     }
 
-    // The same of a name without escapes: it joins the names of its container, where there is room.
+    // Returns whether the innermost container has the name, which has no escapes. If not, the name
+    // goes into the list of its container if that has room, and else into the set.
     fn take_plain(&mut self, name: &'a str) -> Result<bool>
         requires some { HasSomeNames self.old }
         requires inside { 0 < length self.old.outer.items }
@@ -171,7 +173,8 @@ impl<'a> OpenKeys<'a> {
         Ok(false)
     }
 
-    // The same of a name with escapes.
+    // Returns whether the innermost container has the name, which has escapes. If not, the
+    // unescaped name goes into the set.
     fn take_escaped(&mut self, name: Span<'_>) -> Result<bool>
         requires some { HasSomeNames self.old }
         requires inside { 0 < length self.old.outer.items }
@@ -186,8 +189,8 @@ impl<'a> OpenKeys<'a> {
         self.take_into_set(CowStr::Owned(name))
     }
 
-    /// Adds the next name of the text, and returns whether its object has it already. Fails with
-    /// `NoMemory` if memory runs out.
+    /// Adds the next name of the text to those of the innermost object, and returns whether the
+    /// object has it already. Fails with `NoMemory` if memory runs out.
     pub fn take_key(&mut self, name: Span<'a>) -> Result<bool>
         requires some { HasSomeNames self.old }
         requires spelled { (s : List ℕ) × chars name.lossy s name.raw.now }

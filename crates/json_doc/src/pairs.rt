@@ -6,7 +6,8 @@ ghost use Rattle.json_doc.specs.Shape.{AllKeys};
 use crate::doc::Doc;
 use crate::view::{DocView, key_text};
 
-/// The pairs of an object, each its key and its value, in order.
+/// An iterator over the members of an object in the order of the JSON text: each item is the
+/// unescaped key and a view of the value. [`DocView::node`] creates it.
 ///
 /// ```
 /// use json_doc::{DocNode, read_document};
@@ -49,7 +50,7 @@ impl<'a> DocPairs<'a> {
         DocPairs { doc, next, left }
     }
 
-    /// Returns how many are left.
+    /// Returns the number of members that the iterator has not returned yet.
     #[inline]
     pub fn len(&self) -> usize
         ensures { result ≡ length (pairs_left self.now) }
@@ -57,7 +58,8 @@ impl<'a> DocPairs<'a> {
         self.left
     }
 
-    /// Returns the key of the next member, as a string of its own; `None` after the last.
+    /// Returns a view of the next member's key, as of a string, or `None` after the last member.
+    /// The iterator does not advance.
     #[inline]
     pub fn key(&self) -> Option<DocView<'a>>
         ensures tree { option_map view_tree result

@@ -54,8 +54,8 @@ fn record_number(visitor: &mut DocumentVisitor, literal: &str, input: &[u8], fro
     }
 }
 
-// Whether the event was recorded, whose text begins in the input at `from`. There is nothing to
-// record of the end.
+// Records an event whose text begins in the input at the offset `from`, and returns whether it was
+// recorded. Of the end there is nothing to record.
 #[inline(always)]
 pub(crate) fn record_event<const USE: u8>(
     visitor: &mut DocumentVisitor,
@@ -86,8 +86,8 @@ pub(crate) fn record_event<const USE: u8>(
     }
 }
 
-// Where the text between the quotes of a string or a name begins, or a literal, if `end` is the
-// offset after the token.
+// Returns the offset at which the text between the quotes of a string or a name begins, or the
+// literal of a number, if `end` is the offset after the token.
 #[inline(always)]
 pub(crate) fn start_offset(event: Event<'_>, end: usize) -> usize
     requires { length (event_bytes event) ≤ end }
@@ -117,7 +117,8 @@ fn repeated_name_error(name: Span<'_>, text: &str, end: usize) -> Error
     }
 }
 
-// Refuses a name that its object has already. `end` is the offset after the event.
+// Adds an event to the names of the open containers. Fails with `DuplicateKey` for a name that its
+// object has already, and with `NoMemory` if memory runs out. `end` is the offset after the event.
 fn refuse_repeated<'a>(
     keys: &mut OpenKeys<'a>,
     event: Event<'a>,
@@ -145,7 +146,8 @@ fn refuse_repeated<'a>(
     Ok(())
 }
 
-// The same, where the names of each object have to differ.
+// Does what `refuse_repeated` does if the rules say that names must differ, and nothing if not.
+// `end` is the offset after the event.
 #[inline(always)]
 fn check_names<'a>(
     rules: Rules,
@@ -169,8 +171,8 @@ fn check_names<'a>(
     refuse_repeated(keys, event, text, end)
 }
 
-/// Reads the document of a text that fits the rules, by a builder that has room for it. Does not run
-/// out of memory unless names have to differ.
+/// Reads a JSON text by rules into the document that `builder` returns, which has room for the text
+/// and no events yet. Does not run out of memory unless names have to differ.
 pub(crate) fn read_by(
     builder: DocumentVisitor,
     alloc: Global,
@@ -215,11 +217,11 @@ pub(crate) fn read_by(
     Ok(visitor.into_doc())
 }
 
-/// Reads the document of a JSON text of at most 4,294,967,295 bytes by rules: it has no more levels
-/// than they allow, and where they ask for unique names no object has a name twice (RFC 8259,
-/// sections 9 and 4). Fails with the first error of the text by the rules, at its place: of a
-/// bracket that opens a level too many and a name that repeats, the first one, and either before
-/// all other errors. Fails with `NoMemory` if memory runs out.
+/// Reads a JSON text of at most 4,294,967,295 bytes into a packed document by rules. `rules` say
+/// how many levels the text may have (RFC 8259, section 9), and whether a name may repeat in an
+/// object (section 4). Fails with the error of the text by the rules, at its place. A bracket that
+/// opens a level too many and a name that repeats precede all other errors, and of these two the
+/// first one is returned. Fails with `NoMemory` if memory runs out.
 ///
 /// ```
 /// use json_doc::read_document_with;
@@ -239,9 +241,9 @@ pub fn read_document_with(alloc: Global, text: &str, rules: Rules) -> Result<Rc<
     Ok(Rc::new(alloc, doc)?)
 }
 
-/// Reads the document of a JSON text of at most 4,294,967,295 bytes and 254 levels (RFC 8259,
-/// section 9, lets a reader set such limits). Fails with the error of the text at its place, and
-/// with `NoMemory` if memory runs out.
+/// Reads a JSON text of at most 4,294,967,295 bytes and 254 levels into a packed document (RFC
+/// 8259, section 9, lets a reader set such limits). Names may repeat in an object. Fails with the
+/// error of the text at its place, and with `NoMemory` if memory runs out.
 pub fn read_document(alloc: Global, text: &str) -> Result<Rc<Doc>>
     requires { length text.now < 2 ^ 32 }
     ensures ok { IfOk result (λ d. (t : Tree) × is_text false t text.now × (depth t ≤ 254)
@@ -251,11 +253,11 @@ pub fn read_document(alloc: Global, text: &str) -> Result<Rc<Doc>>
     read_document_with(alloc, text, Rules::usual())
 }
 
-/// Reads the document of one value, whatever follows it: the parser, which has returned no event,
-/// goes on to the end of the value and is right after it, done. It reads in its mode, strict or
-/// lossy. Fails with the error of the value at its place in the text, and each later call of the
-/// parser's `next` returns that error again. Fails with `NoMemory` if memory runs out, and then the
-/// parser may be within the value.
+/// Reads the first value of the parser's input into a packed document, whatever follows the value.
+/// The parser must have returned no event yet. It reads in its own mode, strict or lossy, and is
+/// right after the value then, and done. Fails with the error of the value at its place in the
+/// input; each later call of [`Parser::next`] returns that error again. Fails with `NoMemory` if
+/// memory runs out, and then the parser may be within the value.
 ///
 /// ```
 /// use json_doc::read_front;

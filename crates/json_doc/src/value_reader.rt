@@ -85,9 +85,10 @@ pub(crate) fn record_value<'a>(
     }
 }
 
-/// Reads the document of the value whose first event the parser returned last, whatever follows it:
-/// the parser goes on to the end of the value and is right after it. Fails with the parser's error,
-/// and with `NoMemory` if memory runs out.
+/// Reads one value into a packed document, whatever follows it. `first` is the value's first event,
+/// and the one that the parser returned last. The parser reads on to the end of the value and is
+/// right after it then. Fails with the parser's error, which the parser keeps, and with `NoMemory`
+/// if memory runs out.
 ///
 /// ```
 /// use json_doc::read_following_value;

@@ -15,7 +15,8 @@ use crate::node::DocNode;
 use crate::pairs::DocPairs;
 use json_number::Number;
 
-/// A value in a document, seen at its position. No call of a view allocates.
+/// A view of one value of a [`Doc`]: the document, which it borrows, and the position of the
+/// value's cell there. No method allocates.
 ///
 /// ```
 /// use json_doc::read_document;
@@ -43,7 +44,7 @@ impl<'a> DocView<'a> {
     ghost use Rattle.json_doc.specs.Left.{children_doc, children_places, children_left};
     ghost use Rattle.json_doc.specs.Nodes.{NodeOf, NodeIsNumber, NodeIn, NodeAt};
 
-    /// Returns the place of the value's cell.
+    /// Returns the position of the value's cell: its index in [`Doc::cells`].
     #[inline]
     pub fn place(self) -> u32
         ensures at { result ≡ view_place self.entry }
@@ -52,7 +53,7 @@ impl<'a> DocView<'a> {
         self.at
     }
 
-    /// Returns the document.
+    /// Returns the whole document that the value is in.
     #[inline]
     pub fn doc(self) -> &'a Doc
         ensures { result.now ≡ view_doc self.entry }
@@ -68,7 +69,7 @@ impl<'a> DocView<'a> {
         cell_at(self.doc, self.at as usize)
     }
 
-    /// Returns the kind of the value.
+    /// Returns the kind of the value (RFC 8259, section 3).
     #[inline]
     pub fn get_type(self) -> JsonType
         ensures { result ≡ type_of (view_tree self.entry) }
@@ -76,7 +77,7 @@ impl<'a> DocView<'a> {
         self.cell().get_type()
     }
 
-    /// Returns the boolean, or `None` of another kind.
+    /// Returns the boolean, or `None` if the value is of another kind.
     #[inline]
     pub fn as_bool(self) -> Option<bool>
         ensures { result ≡ bool_of (view_tree self.entry) }
@@ -84,8 +85,9 @@ impl<'a> DocView<'a> {
         self.cell().as_bool()
     }
 
-    /// Returns the number if it is an integer of `u64` or `i64` (RFC 8259, section 6), or `None` of
-    /// another number and of another kind.
+    /// Returns the number if it is an integer of `u64` or `i64` (RFC 8259, section 6). Returns
+    /// `None` for any other number, of which [`DocView::literal`] returns the literal, and for a
+    /// value of another kind.
     #[inline]
     pub fn as_number(self) -> Option<Number>
         ensures value { option_map value_of result ≡ integer_in_tree (view_tree self.entry) }
@@ -98,8 +100,9 @@ impl<'a> DocView<'a> {
         }
     }
 
-    /// Returns the literal of a number that is no integer of `u64` or `i64`, itself a number (RFC
-    /// 8259, section 6), or `None` of an integer by value and of another kind.
+    /// Returns the literal of a number that is no integer of `u64` or `i64`, such as `1.5` or `-0`
+    /// (RFC 8259, section 6). Returns `None` for any other number, which [`DocView::as_number`]
+    /// returns, and for a value of another kind.
     #[inline]
     pub fn literal(self) -> Option<&'a str>
         ensures literal { option_map (λ s. s.now) result ≡ literal_of (view_tree self.entry) }
@@ -112,7 +115,7 @@ impl<'a> DocView<'a> {
         }
     }
 
-    /// Returns the text of the string, or `None` of another kind.
+    /// Returns the text of a string, unescaped, or `None` if the value is of another kind.
     #[inline]
     pub fn text(self) -> Option<&'a str>
         ensures { option_map (λ s. s.now) result ≡ string_of (view_tree self.entry) }
@@ -120,7 +123,7 @@ impl<'a> DocView<'a> {
         text_at(self.doc, self.at as usize)
     }
 
-    /// Returns the number of elements or pairs, which is 0 for a scalar.
+    /// Returns the number of elements of an array, or of members of an object; 0 for other kinds.
     #[inline]
     pub fn len(self) -> usize
         ensures { result ≡ length (children (view_tree self.entry)) }
@@ -128,7 +131,8 @@ impl<'a> DocView<'a> {
         self.cell().len()
     }
 
-    /// Returns the element `i`, counted from 0, or `None` of another kind and past the last.
+    /// Returns a view of the element `i` of an array, counted from 0. Returns `None` if there is no
+    /// such element or the value is of another kind. Skips the elements before it one by one.
     #[inline]
     pub fn element(self, i: usize) -> Option<DocView<'a>>
         ensures tree { option_map view_tree result ≡ slice_get (elements (view_tree self.entry)) i }
@@ -176,8 +180,8 @@ impl<'a> DocView<'a> {
         }
     }
 
-    /// Returns the key of the pair `i`, counted from 0, or `None` of another kind and past the
-    /// last.
+    /// Returns the unescaped key of the member `i` of an object, counted from 0. Returns `None` if
+    /// there is no such member or the value is of another kind.
     #[inline]
     pub fn key(self, i: usize) -> Option<&'a str>
         ensures { option_map (λ s. s.now) result
@@ -189,8 +193,8 @@ impl<'a> DocView<'a> {
         }
     }
 
-    /// Returns the key of the pair `i`, counted from 0, as a string of its own, or `None` of
-    /// another kind and past the last.
+    /// Returns a view of the key of the member `i` of an object, counted from 0, as of a string.
+    /// Returns `None` if there is no such member or the value is of another kind.
     #[inline]
     pub fn key_view(self, i: usize) -> Option<DocView<'a>>
         ensures tree { option_map view_tree result
@@ -205,8 +209,8 @@ impl<'a> DocView<'a> {
         }
     }
 
-    /// Returns the value of the pair `i`, counted from 0, or `None` of another kind and past the
-    /// last.
+    /// Returns a view of the value of the member `i` of an object, counted from 0. Returns `None`
+    /// if there is no such member or the value is of another kind.
     #[inline]
     pub fn pair_value(self, i: usize) -> Option<DocView<'a>>
         ensures tree { option_map view_tree result ≡ slice_get (values (view_tree self.entry)) i }
@@ -220,7 +224,8 @@ impl<'a> DocView<'a> {
         }
     }
 
-    /// Returns the elements, or the values of the pairs, in order; none of a scalar.
+    /// Returns an iterator over the elements of an array or the values of an object's members, in
+    /// order. It is empty for other kinds.
     #[inline]
     pub fn children(self) -> DocChildren<'a>
         ensures doc { children_doc result ≡ view_doc self.entry }
@@ -240,8 +245,8 @@ impl<'a> DocView<'a> {
         }
     }
 
-    /// Returns the value by its kind, with all that can be read of it: one call in place of
-    /// several.
+    /// Returns the value as a [`DocNode`], to match on its kind: a scalar by its value, an array or
+    /// an object by an iterator.
     #[inline]
     pub fn node(self) -> DocNode<'a>
         ensures tree { NodeOf result (view_tree self.entry) }

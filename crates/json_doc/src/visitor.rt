@@ -11,11 +11,14 @@ ghost use Rattle.json_doc.specs.State.{VisitorState, Fits, after_event, MayComeA
 
 use json_text::Span;
 
-/// Takes the events of one tree in turn.
+/// Records the events of one tree, the parts of a JSON value from left to right, with a method for
+/// each kind of event.
 ///
-/// Each call returns whether the event was recorded. None is recorded where the room is full, nor
-/// after one that was not. While all were recorded, the events so far and this one begin the events
-/// of a tree. No event takes memory.
+/// Its room is a number of values and keys, and a number of bytes of strings, keys and literals; an
+/// end needs none. Each method returns whether the event was recorded. It returns `false` if there
+/// is no room for the event, and after that for each later event, of which nothing is recorded.
+/// While all events were recorded, the next one has to be one that may follow in a JSON value. For
+/// example, a key may follow only in an object. No method allocates.
 ///
 /// ```
 /// use json_doc::{DocumentVisitor, JsonVisitor};
@@ -35,7 +38,7 @@ pub trait JsonVisitor {
     // an event took no memory: what was taken before it is what is taken after it
     ghost keeps_memory: { Self → Self → Type 0 };
 
-    /// `null`.
+    /// Records `null`. Returns whether it was recorded.
     fn visit_null(&mut self) -> bool
         requires { (state self.old).full ≡ false → MayComeAfter (holds self.old) null_token }
         ensures answer { RecordedIfFits 1 0 (state self.old) result }
@@ -43,7 +46,7 @@ pub trait JsonVisitor {
         ensures held { OnTrue result (HoldsMore (holds self.old) (holds self.new) null_token) }
         ensures memory { keeps_memory self.old self.new };
 
-    /// `true` or `false`.
+    /// Records a boolean. Returns whether it was recorded.
     fn visit_bool(&mut self, b: bool) -> bool
         requires { (state self.old).full ≡ false → MayComeAfter (holds self.old) (boolean_token b) }
         ensures answer { RecordedIfFits 1 0 (state self.old) result }
@@ -52,7 +55,8 @@ pub trait JsonVisitor {
             (HoldsMore (holds self.old) (holds self.new) (boolean_token b)) }
         ensures memory { keeps_memory self.old self.new };
 
-    /// A number by its integer from 0 on. It adds no text.
+    /// Records a number by its integer from 0 on, which needs no room for text. Returns whether it
+    /// was recorded.
     fn visit_u64(&mut self, n: u64) -> bool
         requires { (state self.old).full ≡ false
             → MayComeAfter (holds self.old) (num_token (signed_decimal (pos n))) }
@@ -62,7 +66,8 @@ pub trait JsonVisitor {
             (HoldsMore (holds self.old) (holds self.new) (num_token (signed_decimal (pos n)))) }
         ensures memory { keeps_memory self.old self.new };
 
-    /// A number by its integer below 0. It adds no text.
+    /// Records a number by its integer, which has to be below 0 and needs no room for text. Returns
+    /// whether it was recorded.
     fn visit_i64(&mut self, n: i64) -> bool
         requires negative { n <ℤ pos 0 }
         requires come { (state self.old).full ≡ false
@@ -73,8 +78,8 @@ pub trait JsonVisitor {
             (HoldsMore (holds self.old) (holds self.new) (num_token (signed_decimal n))) }
         ensures memory { keeps_memory self.old self.new };
 
-    /// A number by its literal, which has to be a number (RFC 8259, section 6) that is no integer
-    /// of `u64` or `i64`.
+    /// Records a number by its literal, which has to be a number (RFC 8259, section 6) that is no
+    /// integer of `u64` or `i64`. Returns whether it was recorded.
     fn visit_raw_number(&mut self, literal: &str) -> bool
         requires number { number literal.now }
         requires raw { integer_in literal.now ≡ None }
@@ -87,7 +92,9 @@ pub trait JsonVisitor {
             (HoldsMore (holds self.old) (holds self.new) (num_token literal.now)) }
         ensures memory { keeps_memory self.old self.new };
 
-    /// A string by what is between its quotes.
+    /// Records a string, given by what is between its quotes. It is recorded only if there is room
+    /// for these bytes with their escapes; unescaped it may take fewer. Returns whether it was
+    /// recorded.
     fn visit_str(&mut self, s: Span<'_>) -> bool
         requires { (state self.old).full ≡ false
             → (t : List ℕ) × chars s.lossy t s.raw.now
@@ -99,7 +106,9 @@ pub trait JsonVisitor {
             → HoldsMore (holds self.old) (holds self.new) (text_token t)) }
         ensures memory { keeps_memory self.old self.new };
 
-    /// A key by what is between its quotes.
+    /// Records the key of the next member, given by what is between its quotes. It is recorded only
+    /// if there is room for these bytes with their escapes; unescaped it may take fewer. Returns
+    /// whether it was recorded.
     fn visit_key(&mut self, s: Span<'_>) -> bool
         requires { (state self.old).full ≡ false
             → (t : List ℕ) × chars s.lossy t s.raw.now
@@ -111,7 +120,7 @@ pub trait JsonVisitor {
             → HoldsMore (holds self.old) (holds self.new) (key_token t)) }
         ensures memory { keeps_memory self.old self.new };
 
-    /// An array begins.
+    /// Records the beginning of an array. Returns whether it was recorded.
     fn visit_array_start(&mut self) -> bool
         requires { (state self.old).full ≡ false → MayComeAfter (holds self.old) (begin array) }
         ensures answer { RecordedIfFits 1 0 (state self.old) result }
@@ -119,7 +128,8 @@ pub trait JsonVisitor {
         ensures held { OnTrue result (HoldsMore (holds self.old) (holds self.new) (begin array)) }
         ensures memory { keeps_memory self.old self.new };
 
-    /// The innermost array ends.
+    /// Records the end of the innermost open container, which has to be an array. Returns whether
+    /// it was recorded.
     fn visit_array_end(&mut self) -> bool
         requires { (state self.old).full ≡ false → MayComeAfter (holds self.old) (end array) }
         ensures answer { RecordedIfFits 0 0 (state self.old) result }
@@ -127,7 +137,7 @@ pub trait JsonVisitor {
         ensures held { OnTrue result (HoldsMore (holds self.old) (holds self.new) (end array)) }
         ensures memory { keeps_memory self.old self.new };
 
-    /// An object begins.
+    /// Records the beginning of an object. Returns whether it was recorded.
     fn visit_object_start(&mut self) -> bool
         requires { (state self.old).full ≡ false → MayComeAfter (holds self.old) (begin object) }
         ensures answer { RecordedIfFits 1 0 (state self.old) result }
@@ -135,7 +145,8 @@ pub trait JsonVisitor {
         ensures held { OnTrue result (HoldsMore (holds self.old) (holds self.new) (begin object)) }
         ensures memory { keeps_memory self.old self.new };
 
-    /// The innermost object ends.
+    /// Records the end of the innermost open container, which has to be an object. Returns whether
+    /// it was recorded.
     fn visit_object_end(&mut self) -> bool
         requires { (state self.old).full ≡ false → MayComeAfter (holds self.old) (end object) }
         ensures answer { RecordedIfFits 0 0 (state self.old) result }

@@ -13,7 +13,8 @@ use json_doc::{DocChildren, DocNode, DocPairs, DocView};
 use json_number::{Integer, Number};
 use json_print::Events;
 
-/// Writes the tokens of the tree that is seen. Stops at the first call that fails.
+/// Writes the viewed value to `out` by its tokens, a call of `out` for each. Stops at the first
+/// call that fails, and returns `EventsFailed`; `out` keeps the error.
 #[cycle(document)]
 pub fn emit_document<E: Events>(view: DocView<'_>, out: &mut E) -> EventsResult
     requires { AcceptsValue (E.failed out.old) (E.token_state (E.state out.old)) }
@@ -31,7 +32,8 @@ pub fn emit_document<E: Events>(view: DocView<'_>, out: &mut E) -> EventsResult
     }
 }
 
-/// Writes the token of an integer by value. Stops at the first call that fails.
+/// Writes an integer to `out` by one call. If the call fails, returns `EventsFailed`; `out` keeps
+/// the error.
 pub fn emit_number<E: Events>(number: Number, out: &mut E) -> EventsResult
     requires { AcceptsValue (E.failed out.old) (E.token_state (E.state out.old)) }
     ensures { Walks E.after E.stopped (E.state out.old) (E.state out.new)
@@ -74,7 +76,8 @@ fn emit_packed_pairs<E: Events>(members: DocPairs<'_>, out: &mut E) -> EventsRes
     events_result(out.end_object())
 }
 
-/// Writes the tokens of an array without elements. Stops at the first call that fails.
+/// Writes an empty array to `out` by its two tokens. Stops at the first call that fails, and
+/// returns `EventsFailed`; `out` keeps the error.
 pub fn emit_no_values<E: Events>(out: &mut E) -> EventsResult
     requires { AcceptsValue (E.failed out.old) (E.token_state (E.state out.old)) }
     ensures { Walks E.after E.stopped (E.state out.old) (E.state out.new)
@@ -84,7 +87,8 @@ pub fn emit_no_values<E: Events>(out: &mut E) -> EventsResult
     events_result(out.end_array())
 }
 
-/// Writes the tokens of an object without members. Stops at the first call that fails.
+/// Writes an empty object to `out` by its two tokens. Stops at the first call that fails, and
+/// returns `EventsFailed`; `out` keeps the error.
 pub fn emit_no_pairs<E: Events>(out: &mut E) -> EventsResult
     requires { AcceptsValue (E.failed out.old) (E.token_state (E.state out.old)) }
     ensures { Walks E.after E.stopped (E.state out.old) (E.state out.new)
@@ -94,8 +98,8 @@ pub fn emit_no_pairs<E: Events>(out: &mut E) -> EventsResult
     events_result(out.end_object())
 }
 
-/// Writes the tokens of the array of the elements that are seen. Stops at the first call that
-/// fails.
+/// Writes the elements of the viewed value to `out` as an array; a value that is no array has none.
+/// Stops at the first call that fails, and returns `EventsFailed`; `out` keeps the error.
 pub fn emit_elements<E: Events>(view: DocView<'_>, out: &mut E) -> EventsResult
     requires { AcceptsValue (E.failed out.old) (E.token_state (E.state out.old)) }
     ensures { Walks E.after E.stopped (E.state out.old) (E.state out.new)
@@ -108,8 +112,8 @@ pub fn emit_elements<E: Events>(view: DocView<'_>, out: &mut E) -> EventsResult
     }
 }
 
-/// Writes the tokens of the object of the members that are seen. Stops at the first call that
-/// fails.
+/// Writes the members of the viewed value to `out` as an object; a value that is no object has
+/// none. Stops at the first call that fails, and returns `EventsFailed`; `out` keeps the error.
 pub fn emit_members<E: Events>(view: DocView<'_>, out: &mut E) -> EventsResult
     requires { AcceptsValue (E.failed out.old) (E.token_state (E.state out.old)) }
     ensures { Walks E.after E.stopped (E.state out.old) (E.state out.new)

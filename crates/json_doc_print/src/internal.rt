@@ -1,4 +1,5 @@
-//! All of this crate: `json_value` prints by it, and no program calls it.
+//! All functions and types of this crate, by which `json_value` prints documents. No program calls
+//! them.
 
 pub use crate::emit_packed::{
     emit_document, emit_elements, emit_members, emit_no_pairs, emit_no_values, emit_number,

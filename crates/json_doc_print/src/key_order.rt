@@ -15,21 +15,24 @@ use json_io::Result;
 use std::alloc::Global;
 use std::cmp::Ordering;
 
-/// A member in an index. Most keys differ in their first eight bytes, whose number is kept here:
-/// then no look is needed at the keys, which lie far apart in memory.
+/// A member of an object as an entry of an index that is sorted by keys. It keeps the first eight
+/// bytes of the key as a number. Most keys differ in these, and then the keys themselves, which lie
+/// far apart in memory, are not compared.
 #[derive(Clone, Copy)]
 pub struct IndexedMember {
     front: u64,
-    /// The number of the member.
+    /// The number by which [`MemberKeys`] knows the member. In a document it is the position of the
+    /// member's value.
     pub number: usize,
 }
 
-/// What has the keys of members, which are known by numbers.
+/// Something that has the keys of an object's members, each of which it knows by a number.
 pub trait MemberKeys {
-    /// The key of the member of each number.
+    /// The key of the member with each number.
     ghost key_of: { Self → ℕ → List ℕ };
 
-    /// Returns the key of the member of a number; an empty one where no member has it.
+    /// Returns the unescaped key of the member with this number, or an empty one if there is no
+    /// such member.
     fn key(&self, number: usize) -> &str
         ensures { result.now ≡ key_of self.now number };
 }
@@ -50,14 +53,14 @@ impl MemberKeys for Doc {
     }
 }
 
-/// Returns whether the bytes of `a` precede those of `b`.
+/// Returns whether `a` precedes `b` in the order of bytes.
 pub fn is_less(a: &[u8], b: &[u8]) -> bool
     ensures { result ≡ bytes_less a.now b.now }
 {
     a < b
 }
 
-/// Returns the entry of the member of a number.
+/// Returns the index entry of the member with this number, whose key is looked up in `keys`.
 pub fn entry_of<K: MemberKeys>(keys: &K, number: usize) -> IndexedMember
     ensures number { result.number ≡ number }
     ensures entry { IsEntry (K.key_of keys.now) result }
@@ -94,7 +97,9 @@ fn compare<K: MemberKeys>(keys: &K, a: IndexedMember, b: IndexedMember) -> Order
     }
 }
 
-/// Sorts entries by the keys of their members, and those of one key by their numbers.
+/// Sorts index entries by the keys of their members in the order of bytes, and those of equal keys
+/// by their numbers. The entries have to be made by [`entry_of`] with the same `keys`, and their
+/// numbers have to rise.
 pub fn sort_by_key<K: MemberKeys>(keys: &K, entries: &mut [IndexedMember])
     requires entries { AreEntries (K.key_of keys.now) entries.old }
     requires rise { Rise (map (key_and_number (K.key_of keys.now)) (numbers_in entries.old)) }

@@ -1,6 +1,6 @@
-//! Prints parsed documents, as they are or with the members of each object sorted by their keys
-//! (RFC 8259, section 4), and writes their tokens as events. `json_value` prints the documents
-//! within values by it.
+//! Prints packed documents, as they are or with the members of each object sorted by their keys
+//! (RFC 8259, section 4). Also writes them by their tokens to anything that implements `Events`.
+//! `json_value` prints by it the documents that its values have.
 //!
 //! ```
 //! use json_doc::read_document;

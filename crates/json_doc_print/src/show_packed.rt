@@ -18,8 +18,9 @@ use json_io::{Sink, SinkError, SinkResult};
 use json_layout::{BufferedWriter, Layout, show_piece, show_signed, show_text, show_unsigned};
 use json_number::{Integer, Number};
 
-/// Writes the text of the tree that is seen, with `level` containers around it. Fails with the
-/// sink's error, and with `NoMemory` at 2^64 - 1 levels.
+/// Writes the JSON text of the viewed value to `out` in a layout. `level` is the number of
+/// containers around it. Fails with the error of the sink, and with `NoMemory` if the nesting
+/// reaches 2^64 - 1 levels. Then `out` has gained a prefix of the text.
 pub fn show_document<W: Sink, L: Layout>(
     view: DocView<'_>,
     layout: L,
@@ -33,7 +34,8 @@ pub fn show_document<W: Sink, L: Layout>(
     show_root(view.node(), layout, level, out)
 }
 
-/// Writes an integer by value. Fails with the sink's error.
+/// Writes the decimal text of an integer to `out`. Fails with the error of the sink; `out` has
+/// gained a prefix of the text then.
 pub fn show_number<W: Sink>(number: Number, out: &mut BufferedWriter<W>) -> SinkResult
     ensures { Adds (⟦<BufferedWriter<W> as Sink>⟧.state out.old)
         (⟦<BufferedWriter<W> as Sink>⟧.state out.new) (text_of_number number) result }
@@ -44,7 +46,8 @@ pub fn show_number<W: Sink>(number: Number, out: &mut BufferedWriter<W>) -> Sink
     }
 }
 
-/// Writes `true` or `false`. Fails with the sink's error.
+/// Writes `true` or `false` to `out`. Fails with the error of the sink; `out` has gained a prefix
+/// of the word then.
 pub fn show_bool<W: Sink>(boolean: bool, out: &mut BufferedWriter<W>) -> SinkResult
     ensures { Adds (⟦<BufferedWriter<W> as Sink>⟧.state out.old)
         (⟦<BufferedWriter<W> as Sink>⟧.state out.new) (boolean_bytes boolean) result }
@@ -190,8 +193,10 @@ fn show_pairs<W: Sink, L: Layout>(
     layout.close(out, level, first, b'}')
 }
 
-/// Writes the array of the elements that are seen. Fails with the sink's error, and with
-/// `NoMemory` at 2^64 - 1 levels.
+/// Writes the elements of the viewed value to `out` as the text of an array; a value that is no
+/// array has none. `level` is the number of containers around the array. Fails with the error of
+/// the sink, and with `NoMemory` if the nesting reaches 2^64 - 1 levels. Then `out` has gained a
+/// prefix of the text.
 pub fn show_elements<W: Sink, L: Layout>(
     view: DocView<'_>,
     layout: L,
@@ -209,8 +214,10 @@ pub fn show_elements<W: Sink, L: Layout>(
     }
 }
 
-/// Writes the object of the members that are seen. Fails with the sink's error, and with
-/// `NoMemory` at 2^64 - 1 levels.
+/// Writes the members of the viewed value to `out` as the text of an object; a value that is no
+/// object has none. `level` is the number of containers around the object. Fails with the error of
+/// the sink, and with `NoMemory` if the nesting reaches 2^64 - 1 levels. Then `out` has gained a
+/// prefix of the text.
 pub fn show_members<W: Sink, L: Layout>(
     view: DocView<'_>,
     layout: L,

@@ -18,8 +18,9 @@ use json_io::{Sink, SinkError, SinkResult};
 use json_layout::{BufferedWriter, Layout, show_piece};
 use std::alloc::Global;
 
-/// A layout of texts in which the members of each object are sorted, and the memory for that: 16
-/// bytes a member of an object whose keys are not in order, until its end was written.
+/// A layout in which the members of each object are sorted by their keys. Sorting allocates 16
+/// bytes a member for an object whose keys are not in order, until the end of the object was
+/// written.
 ///
 /// ```
 /// use json_doc::read_document;
@@ -35,14 +36,16 @@ use std::alloc::Global;
 /// ```
 #[derive(Clone, Copy)]
 pub struct SortedLayout<L> {
-    /// Where an index of members is allocated.
+    /// What allocates the index of the members of an object while it is sorted.
     pub alloc: Global,
-    /// The layout of the text.
+    /// The layout of the text, but for the order of members.
     pub inner: L,
 }
 
-/// Writes the text of the tree that is seen, sorted, with `level` containers around it. Fails with
-/// the sink's error, and with `NoMemory` if memory runs out, or at 2^64 - 1 levels.
+/// Writes the JSON text of the viewed value to `out`, the members of each object in it sorted by
+/// keys. `level` is the number of containers around the value. Fails with the error of the sink,
+/// and with `NoMemory` if memory runs out or the levels reach 2^64 - 1.
+/// Then `out` has gained a prefix of the text.
 pub fn show_sorted_document<W: Sink, L: Layout>(
     view: DocView<'_>,
     layout: SortedLayout<L>,
@@ -139,8 +142,11 @@ fn keys_in_order(view: DocView<'_>) -> bool
     }
 }
 
-/// Writes the object of the members that are seen, sorted. Fails with the sink's error, and with
-/// `NoMemory` if memory runs out, or at 2^64 - 1 levels.
+/// Writes the members of the viewed value to `out` as the text of an object, sorted by their keys,
+/// as are those of each object in it. A value that is no object has none. `level` is the number of
+/// containers around the object. Fails with the error of the sink, and with `NoMemory` if memory
+/// runs out or the levels reach 2^64 - 1. Then `out` has gained a prefix of
+/// the text.
 #[cycle(shown_sorted)]
 pub fn show_sorted_members<W: Sink, L: Layout>(
     view: DocView<'_>,
@@ -224,8 +230,11 @@ fn show_by_places<W: Sink, L: Layout>(
     layout.inner.close(out, level, first, b'}')
 }
 
-/// Writes the array of the elements that are seen, sorted. Fails with the sink's error, and with
-/// `NoMemory` if memory runs out, or at 2^64 - 1 levels.
+/// Writes the elements of the viewed value to `out` as the text of an array, the members of each
+/// object in it sorted by their keys. A value that is no array has none. `level` is the number of
+/// containers around the array. Fails with the error of the sink, and with `NoMemory` if memory
+/// runs out or the levels reach 2^64 - 1. Then `out` has gained a prefix of
+/// the text.
 pub fn show_sorted_elements<W: Sink, L: Layout>(
     view: DocView<'_>,
     layout: SortedLayout<L>,

@@ -5,14 +5,16 @@ ghost use Rattle.std.specs.Prelude.{◌≡◌, is_ok};
 
 use json_io::Result;
 
-/// A call of the events failed. The events keep the error, and return it to each later call.
+/// The error of a function that writes a value to an `Events`: a call of that failed. The `Events`
+/// keeps the library's error and returns it to each later call.
 #[derive(Clone, Copy)]
 pub struct EventsFailed;
 
-/// What a walk that writes tokens returns.
+/// The result of a function that writes a value to an `Events` by its tokens.
 pub type EventsResult = std::result::Result<(), EventsFailed>;
 
-/// Returns whether a call of the events went well: fails with `EventsFailed` if `answer` is an error.
+/// Converts the result of a call of an `Events`: `Ok` stays `Ok`, and any error becomes
+/// [`EventsFailed`]. Fails with that alone.
 #[inline(always)]
 pub fn events_result(answer: Result<()>) -> EventsResult
     ensures { is_ok result ≡ is_ok answer }

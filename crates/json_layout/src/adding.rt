@@ -24,8 +24,8 @@ pub(crate) fn send<W: Sink>(sink: &mut W, bytes: &[u8], sent: &mut usize) -> Sin
     Ok(())
 }
 
-/// Writes the whole piece to the sink. Fails with the error of the sink, which then has a prefix of
-/// the piece. An empty piece makes no call.
+/// Writes the whole piece to the sink, by as many calls as that takes; an empty piece makes no
+/// call. Fails with the error of the sink, which has gained a prefix of the piece then.
 #[inline(always)]
 pub fn add<W: Sink>(sink: &mut W, piece: &[u8]) -> SinkResult
     ensures { Adds (W.state sink.old) (W.state sink.new) piece.now result }
@@ -70,8 +70,9 @@ pub(crate) fn error_of_sink(error: SinkError) -> Error
     }
 }
 
-/// Returns what a write came to as a `Result` of the library: its error is `Io` at `Writing` where
-/// a call of the sink failed, and `NoMemory` where memory ran out.
+/// Converts the result of a write to a sink into the library's [`Result`]. A call of the sink that
+/// failed becomes the error `Io` at the place `Writing`, and memory that ran out becomes
+/// `NoMemory`.
 #[inline(always)]
 pub fn into_result(added: SinkResult) -> Result<()>
     ensures { (old new : SinkState) (piece : List ℕ) → Adds old new piece added

@@ -20,7 +20,8 @@ use std::simd::prelude::*;
 
 const CAPACITY: usize = 8192;
 
-/// The memory of a [`BufferedWriter`], 8,192 bytes.
+/// The memory of a [`BufferedWriter`], 8,192 bytes, for a writer that is created later by
+/// [`BufferedWriter::with_buffer`].
 ///
 /// ```
 /// use json_layout::{WriteBuffer, BufferedWriter};
@@ -38,7 +39,7 @@ pub struct WriteBuffer {
 }
 
 impl WriteBuffer {
-    /// Allocates its bytes at once. Fails with `NoMemory` if memory runs out.
+    /// Allocates the 8,192 bytes at once. Fails with `NoMemory` if memory runs out.
     pub fn new(alloc: Global) -> Result<WriteBuffer>
         ensures only { OnlyNoMemory result }
     {
@@ -47,10 +48,12 @@ impl WriteBuffer {
     }
 }
 
-/// A sink that holds up to 8,192 bytes back and sends them to the inner sink at once.
+/// A sink that collects up to 8,192 bytes and sends them together to an inner sink. Flush it at the
+/// end: bytes that it still holds are dropped with it.
 ///
-/// It has gained the inner sink's bytes and then those that it holds. Where the inner sink fails,
-/// the bytes that it took are not sent again, and the others stay held.
+/// To contracts it has gained the bytes of the inner sink followed by those that it holds. If a
+/// call of the inner sink fails, the bytes that the inner sink took are not sent again, and the
+/// others stay held.
 ///
 /// ```
 /// use json_layout::BufferedWriter;
@@ -114,8 +117,8 @@ fn fill(buffer: &mut [u8], at: usize, piece: &[u8])
 }
 
 impl<W: Sink> BufferedWriter<W> {
-    /// Creates a sink over the inner one that holds nothing yet. It allocates its 8,192 bytes at
-    /// once. Fails with `NoMemory` if memory runs out.
+    /// Creates a sink that sends to `inner` and holds nothing yet. It allocates its 8,192 bytes at
+    /// once. Fails with `NoMemory` if memory runs out; then `inner` is dropped.
     pub fn new(alloc: Global, inner: W) -> Result<BufferedWriter<W>>
     where
         W: Drop,
@@ -126,7 +129,8 @@ impl<W: Sink> BufferedWriter<W> {
         Ok(BufferedWriter::with_buffer(buffer, inner))
     }
 
-    /// Creates a sink over the inner one in a buffer that was allocated before.
+    /// Creates a sink that sends to `inner` and holds nothing yet, in a buffer that was allocated
+    /// before. Allocates nothing.
     pub fn with_buffer(buffer: WriteBuffer, inner: W) -> BufferedWriter<W>
         ensures starts { ⟦<BufferedWriter<W> as Sink>⟧.state result ≡ W.state inner }
     {
@@ -138,7 +142,7 @@ impl<W: Sink> BufferedWriter<W> {
         }
     }
 
-    /// Returns the inner sink. Bytes that are held are dropped.
+    /// Returns the inner sink. Bytes that are still held are dropped: flush first to send them.
     pub fn into_inner(self) -> W
         ensures { (held : List ℕ)
             × (⟦<BufferedWriter<W> as Sink>⟧.state self ≡ held_after (W.state result) held) }
@@ -168,7 +172,7 @@ impl<W: Sink> BufferedWriter<W> {
         }
     }
 
-    // The same of a key, with a colon after it.
+    // Does what `put_item` does for a key, with a colon after it.
     #[inline(always)]
     pub(crate) fn put_key(&mut self, first: bool, key: &[u8]) -> bool
         ensures put { IsTrue result → Adds (⟦<BufferedWriter<W> as Sink>⟧.state self.old)

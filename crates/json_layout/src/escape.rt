@@ -106,8 +106,9 @@ fn add_quoted<W: Sink>(writer: &mut W, value: &[u8]) -> SinkResult
     }
 }
 
-/// Writes the characters, escaped where they have to be, and between quotes if `need_quote` is
-/// true. Fails with the error of the sink.
+/// Writes the characters of `value` as in a JSON string: `"`, `\` and the characters below U+0020
+/// are escaped (RFC 8259, section 7). If `need_quote` is true, a quotation mark precedes and
+/// follows them. Fails with the error of the sink, which has gained a prefix then.
 #[inline(always)]
 pub fn add_string<W: Sink>(writer: &mut W, value: &str, need_quote: bool) -> SinkResult
     ensures { Adds (W.state writer.old) (W.state writer.new)
@@ -121,7 +122,8 @@ pub fn add_string<W: Sink>(writer: &mut W, value: &str, need_quote: bool) -> Sin
 }
 
 // Not in line: what a serializer does at each token has to stay small enough to be in line itself.
-/// Writes an integer, as its decimal text. Fails with the error of the sink.
+/// Writes an integer of any type, as its decimal text. Fails with the error of the sink, which has
+/// gained a prefix of the text then.
 #[inline(never)]
 pub fn add_number<N: Integer, W: Sink>(writer: &mut W, number: N) -> SinkResult
     ensures { Adds (W.state writer.old) (W.state writer.new) (N.text number) result }
@@ -173,7 +175,8 @@ fn add_quad<W: Sink>(writer: &mut W, number: u64) -> SinkResult
     )
 }
 
-/// Writes an integer from zero on, as its decimal text. Fails with the error of the sink.
+/// Writes an integer from 0 on, as its decimal text. Fails with the error of the sink, which has
+/// gained a prefix of the text then.
 // One of a few digits is put in line.
 #[inline(always)]
 pub fn add_unsigned<W: Sink>(writer: &mut W, number: u64) -> SinkResult

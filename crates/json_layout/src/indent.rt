@@ -13,7 +13,8 @@ const SPACES: usize = 64;
 // A comma, a new line and the spaces.
 const LINE: &[u8] = b",\n                                                                ";
 
-/// An indent: the bytes that a line begins with, once for each container around it.
+/// An indent, such as two spaces: the bytes that a line begins with, once for each container around
+/// what is on the line.
 ///
 /// ```
 /// use json_layout::{Indent, add_start, into_result};
@@ -51,7 +52,7 @@ fn spaces_ready(bytes: &[u8]) -> usize
 impl<'a> Indent<'a> {
     ghost use Rattle.json_layout.specs.IndentBytes.{indent_bytes};
 
-    /// Creates an indent of these bytes.
+    /// Creates an indent of these bytes, which the indent borrows. They are written as they are.
     pub fn new(bytes: &'a [u8]) -> Indent<'a>
         ensures { indent_bytes result ≡ bytes.now }
     {
@@ -106,7 +107,7 @@ fn add_long_break<W: Sink>(
     add_indents(writer, indent, level)
 }
 
-/// A comma except before the first, and a new line followed by this number of indents.
+/// Writes a comma unless `first` is true, and then a line feed and `level` indents.
 #[inline(always)]
 pub(crate) fn add_break<W: Sink>(
     writer: &mut W,

@@ -10,8 +10,9 @@ use crate::escape::add_number;
 use crate::indent::{Indent, add_break};
 use json_io::{Sink, SinkResult};
 
-/// Writes what precedes an element or a key: a comma unless it is the first, and then a new line
-/// with `level` indents if there is an indent. Fails with the error of the sink.
+/// Writes what precedes an element or a key: a comma unless `first` is true, and, if there is an
+/// indent, a line feed and `level` indents. `level` is the number of containers around the element
+/// or the key. Fails with the error of the sink, which has gained a prefix of that then.
 #[inline(always)]
 pub fn add_start<W: Sink>(
     writer: &mut W,
@@ -42,8 +43,10 @@ fn add_end_line<W: Sink>(
     add(writer, &[bracket])
 }
 
-/// Writes a closing bracket. It is on a line of its own if there is an indent and `flag` says that
-/// the container holds something. Fails with the error of the sink.
+/// Writes the closing bracket of a container. If there is an indent and `flag` is true, which says
+/// that the container is not empty, a line feed and `level` indents precede it. `level` is the
+/// number of containers around the closed one. Fails with the error of the sink, which has gained a
+/// prefix of that then.
 #[inline]
 pub fn add_end<W: Sink>(
     writer: &mut W,
@@ -99,8 +102,10 @@ fn add_byte_elements<W: Sink>(
     Ok(())
 }
 
-/// Writes the bytes as an array of numbers. Its elements are after `level` indents and its end is
-/// after `outer`, if there is an indent. Fails with the error of the sink.
+/// Writes `bytes` as an array of numbers, one for each byte. If there is an indent, each element is
+/// on a line of its own after `level` indents. The closing bracket is then on a line after `outer`
+/// indents, unless the array is empty. Fails with the error of the sink, which has gained a prefix
+/// of that then.
 pub fn add_byte_array<W: Sink>(
     writer: &mut W,
     indent: Option<Indent<'_>>,

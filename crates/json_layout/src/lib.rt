@@ -1,6 +1,6 @@
-//! Writes the parts of a JSON text to a sink and lays them out (RFC 8259, sections 2 and 7):
-//! strings with their escapes, integers, indents, and what precedes and follows elements and
-//! members.
+//! Writes the parts of a JSON text to a sink and lays them out (RFC 8259, sections 2 and 7). The
+//! parts are strings with their escapes, integers, indents, and the commas, colons and line feeds
+//! around elements and members.
 //!
 //! ```
 //! use json_io::{VecSink, flush_all};

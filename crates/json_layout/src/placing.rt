@@ -105,7 +105,7 @@ pub(crate) fn place_item(buffer: &mut [u8], end: usize, first: bool, text: &[u8]
     Some(close + 1)
 }
 
-// The same of a key, with a colon after it.
+// Does what `place_item` does for a key, with a colon after it.
 #[inline(always)]
 pub(crate) fn place_key(buffer: &mut [u8], end: usize, first: bool, key: &[u8]) -> Option<usize>
     requires { end + 36 ≤ length buffer.old }

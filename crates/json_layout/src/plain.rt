@@ -63,7 +63,7 @@ pub(crate) fn is_plain_by<const N: usize>(text: &[u8]) -> bool
     front & back
 }
 
-// The same of few bytes, one after another.
+// Returns whether no byte has to be escaped, of few bytes, one after another.
 #[inline(always)]
 fn is_plain_few(text: &[u8]) -> bool
     ensures { IsTrue result → plain text.now }

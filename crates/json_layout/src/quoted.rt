@@ -7,8 +7,8 @@ ghost use Rattle.json_scan.specs.Runs.{IsPlain};
 use json_scan::plain_run;
 use std::fmt;
 
-/// Shows the characters by std's formatting as a JSON string, between quotes and escaped as the
-/// formatters do (RFC 8259, section 7).
+/// A text that std's formatting, such as `format!`, shows as a JSON string (RFC 8259, section 7):
+/// between quotes, and escaped where it has to be.
 ///
 /// ```
 /// use json_layout::Quoted;

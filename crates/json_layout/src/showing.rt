@@ -16,8 +16,11 @@ use crate::escape::{add_number, add_unsigned};
 use crate::indent::{Indent, add_break};
 use json_io::{Result, Sink, SinkResult};
 
-/// How the parts of a text are laid out: what precedes elements, keys and closing brackets, and
-/// what follows keys.
+/// A layout of a JSON text: which whitespace is written before elements, keys and closing brackets,
+/// and after keys. [`OneLine`] writes none, and [`ManyLines`] indents.
+///
+/// Each method appends to `out`, and fails with the error of the sink, which has gained a prefix of
+/// what was to be written then.
 ///
 /// ```
 /// use json_layout::{BufferedWriter, Layout, ManyLines, answered, show_unsigned};
@@ -31,15 +34,17 @@ use json_io::{Result, Sink, SinkResult};
 /// assert_eq!(rt; out.into_inner().as_slice(), b"\n  \"born\": 1815,\n  \"Ada\"".as_slice());
 /// ```
 pub trait Layout: Copy {
-    /// The indent, or none for no whitespace.
+    /// The indent, or none for a layout without whitespace.
     ghost indent: { Self → Option (List ℕ) };
 
-    /// Writes what precedes an element that is no string.
+    /// Writes what precedes an element: a comma unless `first` is true, and the line feed and the
+    /// `level` indents of the layout. `level` is the number of containers around the element.
     fn lead<W: Sink>(self, out: &mut BufferedWriter<W>, level: usize, first: bool) -> SinkResult
         ensures { Adds (⟦<BufferedWriter<W> as Sink>⟧.state out.old)
             (⟦<BufferedWriter<W> as Sink>⟧.state out.new) (lead (indent self) level first) result };
 
-    /// Writes an element that is a string, and what precedes it.
+    /// Writes an element that is a string, and before it what [`Layout::lead`] writes for the same
+    /// `level` and `first`.
     fn element<W: Sink>(
         self,
         out: &mut BufferedWriter<W>,
@@ -51,7 +56,8 @@ pub trait Layout: Copy {
             (⟦<BufferedWriter<W> as Sink>⟧.state out.new)
             (text_shown (indent self) level first text.now) result };
 
-    /// Writes a key, and what precedes and follows it.
+    /// Writes the key of a member and the colon after it, and before it what [`Layout::lead`]
+    /// writes for the same `level` and `first`.
     fn key<W: Sink>(
         self,
         out: &mut BufferedWriter<W>,
@@ -63,13 +69,14 @@ pub trait Layout: Copy {
             (⟦<BufferedWriter<W> as Sink>⟧.state out.new)
             (key_shown (indent self) level first key.now) result };
 
-    /// Writes what follows a key.
+    /// Writes what follows a key: a colon, and in a layout with an indent a space.
     fn colon<W: Sink>(self, out: &mut BufferedWriter<W>) -> SinkResult
         ensures { Adds (⟦<BufferedWriter<W> as Sink>⟧.state out.old)
             (⟦<BufferedWriter<W> as Sink>⟧.state out.new) (colon_bytes (indent self)) result };
 
-    /// Writes a closing bracket, and what precedes it. `empty` says that the container has no
-    /// element and no member.
+    /// Writes the closing bracket `bracket` of a container, and before it, unless `empty` is true,
+    /// the line feed and the `level` indents of the layout. `empty` says that the container has no
+    /// element and no member, and `level` is the number of containers around it.
     fn close<W: Sink>(
         self,
         out: &mut BufferedWriter<W>,
@@ -106,7 +113,7 @@ fn add_item<W: Sink>(out: &mut BufferedWriter<W>, first: bool, text: &[u8]) -> S
     out.put_quoted(first, text)
 }
 
-/// No whitespace between the tokens.
+/// The layout without whitespace between the tokens.
 ///
 /// ```
 /// use json_layout::{BufferedWriter, Layout, OneLine, answered};
@@ -174,8 +181,8 @@ impl Layout for OneLine {
     }
 }
 
-/// Each element and each member on a line of its own, after one indent for each container around
-/// it.
+/// The layout that has each element and each member on a line of its own, after one indent for each
+/// container around it.
 ///
 /// ```
 /// use json_layout::{BufferedWriter, Layout, ManyLines, answered};
@@ -191,7 +198,7 @@ pub struct ManyLines<'a> {
 }
 
 impl<'a> ManyLines<'a> {
-    /// Creates a layout with an indent of these bytes.
+    /// Creates a layout whose indent is these bytes, which it borrows.
     pub fn new(indent: &'a [u8]) -> ManyLines<'a>
         ensures { ⟦<ManyLines<'a> as Layout>⟧.indent result ≡ Some indent.now }
     {
@@ -255,7 +262,8 @@ impl Layout for ManyLines<'_> {
     }
 }
 
-/// Writes a piece of the text as it is.
+/// Appends bytes to `out` as they are. Fails with the error of the sink, which has gained a prefix
+/// of them then.
 #[inline(always)]
 pub fn show_piece<W: Sink>(out: &mut BufferedWriter<W>, piece: &[u8]) -> SinkResult
     ensures { Adds (⟦<BufferedWriter<W> as Sink>⟧.state out.old)
@@ -264,7 +272,8 @@ pub fn show_piece<W: Sink>(out: &mut BufferedWriter<W>, piece: &[u8]) -> SinkRes
     add(out, piece)
 }
 
-/// Writes a string, between quotes and escaped.
+/// Appends a JSON string to `out`: `text` between quotes and escaped (RFC 8259, section 7). Fails
+/// with the error of the sink, which has gained a prefix of that then.
 #[inline(always)]
 pub fn show_text<W: Sink>(out: &mut BufferedWriter<W>, text: &str) -> SinkResult
     ensures { Adds (⟦<BufferedWriter<W> as Sink>⟧.state out.old)
@@ -273,7 +282,8 @@ pub fn show_text<W: Sink>(out: &mut BufferedWriter<W>, text: &str) -> SinkResult
     add_item(out, true, text.as_bytes())
 }
 
-/// Writes an integer from zero on.
+/// Appends the decimal text of an integer from 0 on to `out`. Fails with the error of the sink,
+/// which has gained a prefix of that text then.
 #[inline(always)]
 pub fn show_unsigned<W: Sink>(out: &mut BufferedWriter<W>, number: u64) -> SinkResult
     ensures { Adds (⟦<BufferedWriter<W> as Sink>⟧.state out.old)
@@ -282,7 +292,8 @@ pub fn show_unsigned<W: Sink>(out: &mut BufferedWriter<W>, number: u64) -> SinkR
     add_unsigned(out, number)
 }
 
-/// Writes an integer.
+/// Appends the decimal text of an integer to `out`. Fails with the error of the sink, which has
+/// gained a prefix of that text then.
 #[inline(always)]
 pub fn show_signed<W: Sink>(out: &mut BufferedWriter<W>, number: i64) -> SinkResult
     ensures { Adds (⟦<BufferedWriter<W> as Sink>⟧.state out.old)
@@ -291,8 +302,9 @@ pub fn show_signed<W: Sink>(out: &mut BufferedWriter<W>, number: i64) -> SinkRes
     add_number(out, number)
 }
 
-/// Returns the error of a write: `Io` at `Writing` where a call of the sink failed, and `NoMemory`
-/// where memory ran out.
+/// Converts what the functions and methods of this crate return to the library's [`Result`]. A call
+/// of the sink that failed becomes the error `Io` at the place `Writing`, and memory that ran out
+/// becomes `NoMemory`.
 pub fn answered(shown: SinkResult) -> Result<()>
     ensures text { (level : ℕ) (old new : SinkState) (text : List ℕ)
         → Shows level old new text shown → WritesText old new text result }

@@ -5,8 +5,9 @@ ghost use Rattle.json_layout.specs.Indents.{indent_is_prop};
 
 use json_scan::ws_run;
 
-/// How a JSON text is laid out: an indent of whitespace, or none for no whitespace between the
-/// tokens, and whether the members of each object are sorted by their keys.
+/// How a JSON text is printed. With an indent of whitespace each element and each member is on a
+/// line of its own; without one there is no whitespace between the tokens. The members of each
+/// object may be sorted by their keys.
 ///
 /// ```
 /// use json_layout::Style;
@@ -26,8 +27,9 @@ impl<'a> Style<'a> {
     ghost use Rattle.std.specs.Prelude.{◌≡◌, MatchOption};
     ghost use Rattle.json_layout.specs.Styles.{indent_of, is_sorted};
 
-    /// Creates a style of this indent, which is sorted or not. Returns `None` exactly if a byte of
-    /// the indent is no whitespace (RFC 8259, section 2).
+    /// Creates a style with this indent, or with no whitespace for `None`; `sorted` says whether
+    /// members are sorted by their keys. Returns `None` exactly if a byte of the indent is no
+    /// whitespace (RFC 8259, section 2).
     pub fn new(indent: Option<&'a str>, sorted: bool) -> Option<Style<'a>>
         ensures { let i = option_map (λ s. s.now) indent.entry in
             MatchOption result (¬ (IsIndent i)) (λ s. (indent_of s ≡ i) × (is_sorted s ≡ sorted)) }
@@ -38,7 +40,7 @@ impl<'a> Style<'a> {
         }
     }
 
-    /// Returns the indent that the style was made with.
+    /// Returns the indent of the style, or `None` if it has no whitespace between the tokens.
     pub fn indent(self) -> Option<&'a str>
         ensures same { option_map (λ s. s.now) result ≡ indent_of self.entry }
         ensures whitespace { IsIndent (option_map (λ s. s.now) result) }

@@ -5,7 +5,7 @@ use crate::Formatter;
 use json_io::{Result, Sink};
 use json_layout::{add, add_byte_array, add_number, add_string, add_unsigned, into_result};
 
-/// A formatter that writes no whitespace between the tokens.
+/// A [`Formatter`] that writes no whitespace between the tokens.
 ///
 /// ```
 /// use json_print::{CompactFormatter, Formatter};

@@ -1,8 +1,8 @@
-// Laws of what is given to events.
+//! A law of the parts of a datum. No program needs to call it.
 ghost use Rattle.json_print.specs.Data.{DatumTokens};
 
-/// Each key of a datum has a text exactly where the datum has a tree, and then what is given of it
-/// are the tokens of that tree, from left to right.
+/// Proves that each key of a datum has a text exactly if the datum has a tree, and that its parts
+/// are then the tokens of that tree, from left to right. A datum is what a typed value means.
 pub fn datum_tokens()
     ensures { DatumTokens }
 {}

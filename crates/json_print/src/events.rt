@@ -11,8 +11,8 @@ ghost use Rattle.json_print.specs.Taking.{Takes};
 
 use json_io::Result;
 
-/// What may follow of a value's parts. The contracts of [`Events`] say by it which call may follow;
-/// no call returns it.
+/// Which part of a value may be written next. The contracts of [`Events`] say by it which method
+/// may be called; no method returns it.
 ///
 /// ```
 /// use json_print::ExpectedEvent;
@@ -22,21 +22,21 @@ use json_io::Result;
 /// ```
 #[derive(Clone, Copy, Debug)]
 pub enum ExpectedEvent {
-    /// The value, with nothing around it.
+    /// The whole value: no part of it was written.
     Value,
-    /// An element, which is the first or not, or the end.
+    /// An element, or the end of the array. The flag is true if no element was written yet.
     Element(bool),
-    /// A key, which is the first or not, or the end.
+    /// A key, or the end of the object. The flag is true if no key was written yet.
     Key(bool),
-    /// The value after a key.
+    /// The value of the member whose key was written last.
     Member,
-    /// Nothing.
+    /// Nothing: the value is whole.
     Done,
 }
 
-/// Takes the parts of one value from left to right, a call for each. An integer is given by its
-/// value, all else as a token. What is taken does not depend on a hint of how many elements or
-/// members follow.
+/// Something to which one JSON value is written by its parts, from left to right, such as a
+/// [`Serializer`](crate::Serializer). A scalar is one call; an array or an object is begun, gets
+/// its elements or members, and is ended. Each call has to be of a part that may come next.
 ///
 /// Errors are sticky: a call that meets an error returns it, and each later call returns it again
 /// and changes nothing.
@@ -54,51 +54,52 @@ pub enum ExpectedEvent {
 pub trait Events {
     ghost State: { Type 0 };
 
-    /// Computed from what it holds.
+    /// What was written, as contracts see it.
     ghost state: { Self → State };
 
-    /// The state after what is given.
+    /// The state after a part is written to a state.
     ghost after: { State → TokenOrInteger → State };
 
-    /// What may follow.
+    /// Which parts may come next in a state.
     ghost token_state: { State → TokenState };
 
-    /// What a call that meets an error at what is given may leave.
+    /// The states that a call may leave that meets an error at a part, and the errors.
     ghost stopped: { State → TokenOrInteger → State → Error → Type 0 };
 
-    /// The error that was returned.
+    /// The error that was returned first, if any.
     ghost failed: { Self → Option Error };
 
-    /// Takes a null. Fails if what takes the parts does, and again after any error.
+    /// Writes `null`. Fails if that cannot be written, and after any error with the same error.
     fn null(&mut self) -> Result<()>
         requires { failed self.old ≡ None → MayCome (token_state (state self.old)) null_token }
         ensures { Takes after stopped (state self.old) (state self.new)
             (failed self.old) (failed self.new) (given null_token) result };
 
-    /// Takes a truth value. Fails if what takes the parts does, and again after any error.
+    /// Writes `true` or `false`. Fails if that cannot be written, and after any error with the same
+    /// error.
     fn boolean(&mut self, b: bool) -> Result<()>
         requires { failed self.old ≡ None → MayCome (token_state (state self.old)) (boolean_token b) }
         ensures { Takes after stopped (state self.old) (state self.new)
             (failed self.old) (failed self.new) (given (boolean_token b)) result };
 
-    /// Takes an integer, as its decimal text. Fails if what takes the parts does, and again after
-    /// any error.
+    /// Writes an integer, as its decimal text. Fails if that cannot be written, and after any error
+    /// with the same error.
     fn int(&mut self, n: i128) -> Result<()>
         requires { failed self.old ≡ None
             → MayCome (token_state (state self.old)) (num_token (signed_decimal n)) }
         ensures { Takes after stopped (state self.old) (state self.new)
             (failed self.old) (failed self.new) (given_integer n) result };
 
-    /// Takes an integer from zero on, as its decimal text. Fails if what takes the parts does, and
-    /// again after any error.
+    /// Writes an integer from 0 on, as its decimal text. Fails if that cannot be written, and after
+    /// any error with the same error.
     fn uint(&mut self, n: u128) -> Result<()>
         requires { failed self.old ≡ None
             → MayCome (token_state (state self.old)) (num_token (decimal n)) }
         ensures { Takes after stopped (state self.old) (state self.new)
             (failed self.old) (failed self.new) (given_integer (pos n)) result };
 
-    /// Takes a number by its literal (RFC 8259, section 6), which is kept as it is. Fails if what
-    /// takes the parts does, and again after any error.
+    /// Writes a number by its literal, which is kept as it is and has to be a number (RFC 8259,
+    /// section 6). Fails if that cannot be written, and after any error with the same error.
     fn raw_number(&mut self, literal: &str) -> Result<()>
         requires number { number literal.now }
         requires come { failed self.old ≡ None
@@ -106,49 +107,52 @@ pub trait Events {
         ensures { Takes after stopped (state self.old) (state self.new)
             (failed self.old) (failed self.new) (given (num_token literal.now)) result };
 
-    /// Takes a string, by its characters. Fails if what takes the parts does, and again after any
-    /// error.
+    /// Writes a string that has the characters of `s`; `s` has no quotes and no escapes of its own.
+    /// Fails if that cannot be written, and after any error with the same error.
     fn text(&mut self, s: &str) -> Result<()>
         requires { failed self.old ≡ None → MayCome (token_state (state self.old)) (text_token s.now) }
         ensures { Takes after stopped (state self.old) (state self.new)
             (failed self.old) (failed self.new) (given (text_token s.now)) result };
 
-    /// Takes the beginning of an array. The hint is how many elements follow, if that is known.
-    /// Fails if what takes the parts does, and again after any error.
+    /// Begins an array: its elements follow, and then [`Events::end_array`]. `hint` is the number
+    /// of elements if it is known; what is written does not depend on it. Fails if that cannot be
+    /// written, and after any error with the same error.
     fn begin_array(&mut self, hint: Option<usize>) -> Result<()>
         requires { failed self.old ≡ None → MayCome (token_state (state self.old)) (begin array) }
         ensures { Takes after stopped (state self.old) (state self.new)
             (failed self.old) (failed self.new) (given (begin array)) result };
 
-    /// Takes the end of the array that was begun last. Fails if what takes the parts does, and
-    /// again after any error.
+    /// Ends the array that was begun last and is not ended yet. Fails if that cannot be written,
+    /// and after any error with the same error.
     fn end_array(&mut self) -> Result<()>
         requires { failed self.old ≡ None → MayCome (token_state (state self.old)) (end array) }
         ensures { Takes after stopped (state self.old) (state self.new)
             (failed self.old) (failed self.new) (given (end array)) result };
 
-    /// Takes the beginning of an object. The hint is how many members follow, if that is known.
-    /// Fails if what takes the parts does, and again after any error.
+    /// Begins an object: its members follow, each by [`Events::key`] and a value, and then
+    /// [`Events::end_object`]. `hint` is the number of members if it is known; what is written does
+    /// not depend on it. Fails if that cannot be written, and after any error with the same error.
     fn begin_object(&mut self, hint: Option<usize>) -> Result<()>
         requires { failed self.old ≡ None → MayCome (token_state (state self.old)) (begin object) }
         ensures { Takes after stopped (state self.old) (state self.new)
             (failed self.old) (failed self.new) (given (begin object)) result };
 
-    /// Takes the key of the next member, by its characters. Its value must follow. Fails if what
-    /// takes the parts does, and again after any error.
+    /// Writes the key of the next member, which has the characters of `s`; its value has to follow.
+    /// `s` has no quotes and no escapes of its own. Fails if that cannot be written, and after any
+    /// error with the same error.
     fn key(&mut self, s: &str) -> Result<()>
         requires { failed self.old ≡ None → MayCome (token_state (state self.old)) (key_token s.now) }
         ensures { Takes after stopped (state self.old) (state self.new)
             (failed self.old) (failed self.new) (given (key_token s.now)) result };
 
-    /// Takes the end of the object that was begun last. Fails if what takes the parts does, and
-    /// again after any error.
+    /// Ends the object that was begun last and is not ended yet. Fails if that cannot be written,
+    /// and after any error with the same error.
     fn end_object(&mut self) -> Result<()>
         requires { failed self.old ≡ None → MayCome (token_state (state self.old)) (end object) }
         ensures { Takes after stopped (state self.old) (state self.new)
             (failed self.old) (failed self.new) (given (end object)) result };
 
-    /// What may follow changes as in the tokens of a tree.
+    /// Which parts may come next changes as in the tokens of a tree.
     ghost moves: { (s : State) (g : TokenOrInteger)
         → token_state (after s g) ≡ after_token (token_state s) (token_of g) };
 }

@@ -7,10 +7,13 @@ ghost use Rattle.json_print.specs.Layouts.{FormatterModel};
 
 use json_io::{Result, Sink};
 
-/// Writes the parts of a JSON text (RFC 8259): each call appends one piece to the writer.
+/// Decides how a [`Serializer`](crate::Serializer) writes the parts of a JSON text (RFC 8259), and
+/// writes them: each method appends one piece to `writer`.
+/// [`CompactFormatter`](crate::CompactFormatter) writes no whitespace, and
+/// [`PrettyFormatter`](crate::PrettyFormatter) indents.
 ///
-/// Fails with `Io` at `Writing` if the writer failed, and with `NoMemory` if the writer found no
-/// memory; it has then gained a prefix of the piece.
+/// Each method fails with `Io` at the place `Writing` if a call of the writer failed, and with
+/// `NoMemory` if the writer ran out of memory. The writer has gained a prefix of the piece then.
 ///
 /// ```
 /// use json_print::{Formatter, PrettyFormatter};
@@ -22,10 +25,10 @@ use json_io::{Result, Sink};
 /// assert_eq!(rt; sink.as_slice(), b"\"a\\tb\": ".as_slice());
 /// ```
 pub trait Formatter {
-    /// The piece that each call writes, and the formatter after it.
+    /// The piece that each call writes, and the formatter after the call.
     ghost form: { FormatterModel Self };
 
-    /// The first state, in which nothing was written yet.
+    /// The first state of a formatter, in which it has written nothing.
     ghost fresh: { Self → Type 0 };
 
     /// Writes `null`. Fails if the writer does.
@@ -40,74 +43,75 @@ pub trait Formatter {
             (form.piece self.old (boolean_call value)) result }
         ensures next { OnOk result (self.new ≡ form.next self.old (boolean_call value)) };
 
-    /// Writes the integer's decimal text. Fails if the writer does.
+    /// Writes the decimal text of an integer. Fails if the writer does.
     fn write_i8<W: Sink>(&mut self, writer: &mut W, value: i8) -> Result<()>
         ensures puts { Puts (W.state writer.old) (W.state writer.new)
             (form.piece self.old (signed_call value)) result }
         ensures next { OnOk result (self.new ≡ form.next self.old (signed_call value)) };
 
-    /// Writes the integer's decimal text. Fails if the writer does.
+    /// Writes the decimal text of an integer. Fails if the writer does.
     fn write_i16<W: Sink>(&mut self, writer: &mut W, value: i16) -> Result<()>
         ensures puts { Puts (W.state writer.old) (W.state writer.new)
             (form.piece self.old (signed_call value)) result }
         ensures next { OnOk result (self.new ≡ form.next self.old (signed_call value)) };
 
-    /// Writes the integer's decimal text. Fails if the writer does.
+    /// Writes the decimal text of an integer. Fails if the writer does.
     fn write_i32<W: Sink>(&mut self, writer: &mut W, value: i32) -> Result<()>
         ensures puts { Puts (W.state writer.old) (W.state writer.new)
             (form.piece self.old (signed_call value)) result }
         ensures next { OnOk result (self.new ≡ form.next self.old (signed_call value)) };
 
-    /// Writes the integer's decimal text. Fails if the writer does.
+    /// Writes the decimal text of an integer. Fails if the writer does.
     fn write_i64<W: Sink>(&mut self, writer: &mut W, value: i64) -> Result<()>
         ensures puts { Puts (W.state writer.old) (W.state writer.new)
             (form.piece self.old (signed_call value)) result }
         ensures next { OnOk result (self.new ≡ form.next self.old (signed_call value)) };
 
-    /// Writes the integer's decimal text. Fails if the writer does.
+    /// Writes the decimal text of an integer. Fails if the writer does.
     fn write_i128<W: Sink>(&mut self, writer: &mut W, value: i128) -> Result<()>
         ensures puts { Puts (W.state writer.old) (W.state writer.new)
             (form.piece self.old (signed_call value)) result }
         ensures next { OnOk result (self.new ≡ form.next self.old (signed_call value)) };
 
-    /// Writes the integer's decimal text. Fails if the writer does.
+    /// Writes the decimal text of an integer. Fails if the writer does.
     fn write_u8<W: Sink>(&mut self, writer: &mut W, value: u8) -> Result<()>
         ensures puts { Puts (W.state writer.old) (W.state writer.new)
             (form.piece self.old (unsigned_call value)) result }
         ensures next { OnOk result (self.new ≡ form.next self.old (unsigned_call value)) };
 
-    /// Writes the integer's decimal text. Fails if the writer does.
+    /// Writes the decimal text of an integer. Fails if the writer does.
     fn write_u16<W: Sink>(&mut self, writer: &mut W, value: u16) -> Result<()>
         ensures puts { Puts (W.state writer.old) (W.state writer.new)
             (form.piece self.old (unsigned_call value)) result }
         ensures next { OnOk result (self.new ≡ form.next self.old (unsigned_call value)) };
 
-    /// Writes the integer's decimal text. Fails if the writer does.
+    /// Writes the decimal text of an integer. Fails if the writer does.
     fn write_u32<W: Sink>(&mut self, writer: &mut W, value: u32) -> Result<()>
         ensures puts { Puts (W.state writer.old) (W.state writer.new)
             (form.piece self.old (unsigned_call value)) result }
         ensures next { OnOk result (self.new ≡ form.next self.old (unsigned_call value)) };
 
-    /// Writes the integer's decimal text. Fails if the writer does.
+    /// Writes the decimal text of an integer. Fails if the writer does.
     fn write_u64<W: Sink>(&mut self, writer: &mut W, value: u64) -> Result<()>
         ensures puts { Puts (W.state writer.old) (W.state writer.new)
             (form.piece self.old (unsigned_call value)) result }
         ensures next { OnOk result (self.new ≡ form.next self.old (unsigned_call value)) };
 
-    /// Writes the integer's decimal text. Fails if the writer does.
+    /// Writes the decimal text of an integer. Fails if the writer does.
     fn write_u128<W: Sink>(&mut self, writer: &mut W, value: u128) -> Result<()>
         ensures puts { Puts (W.state writer.old) (W.state writer.new)
             (form.piece self.old (unsigned_call value)) result }
         ensures next { OnOk result (self.new ≡ form.next self.old (unsigned_call value)) };
 
-    /// Writes a number's literal as it is. Fails if the writer does.
+    /// Writes the literal of a number as it is. Fails if the writer does.
     fn write_number_str<W: Sink>(&mut self, writer: &mut W, value: &str) -> Result<()>
         ensures puts { Puts (W.state writer.old) (W.state writer.new)
             (form.piece self.old (number_call value.now)) result }
         ensures next { OnOk result (self.new ≡ form.next self.old (number_call value.now)) };
 
-    /// Writes a string, between quotes where they are needed: `"`, `\\` and the characters below
-    /// U+0020 are escaped, and nothing else (RFC 8259, section 7). Fails if the writer does.
+    /// Writes the characters of a string, between quotes if `need_quote` is true. `"`, `\` and the
+    /// characters below U+0020 are escaped, and nothing else (RFC 8259, section 7). Fails if the
+    /// writer does.
     fn write_string_fast<W: Sink>(
         &mut self,
         writer: &mut W,
@@ -119,87 +123,91 @@ pub trait Formatter {
         ensures next { OnOk result (self.new ≡
             form.next self.old (string_call need_quote value.now)) };
 
-    /// Writes bytes as an array of numbers. Fails if the writer does.
+    /// Writes bytes as an array of numbers, one for each byte. Fails if the writer does.
     fn write_byte_array<W: Sink>(&mut self, writer: &mut W, value: &[u8]) -> Result<()>
         ensures puts { Puts (W.state writer.old) (W.state writer.new)
             (form.piece self.old (bytes_call value.now)) result }
         ensures next { OnOk result (self.new ≡ form.next self.old (bytes_call value.now)) };
 
-    /// Writes the quote before a string. Fails if the writer does.
+    /// Writes the quotation mark that begins a string. Fails if the writer does.
     fn begin_string<W: Sink>(&mut self, writer: &mut W) -> Result<()>
         ensures puts { Puts (W.state writer.old) (W.state writer.new)
             (form.piece self.old begin_string) result }
         ensures next { OnOk result (self.new ≡ form.next self.old begin_string) };
 
-    /// Writes the quote after a string. Fails if the writer does.
+    /// Writes the quotation mark that ends a string. Fails if the writer does.
     fn end_string<W: Sink>(&mut self, writer: &mut W) -> Result<()>
         ensures puts { Puts (W.state writer.old) (W.state writer.new)
             (form.piece self.old end_string) result }
         ensures next { OnOk result (self.new ≡ form.next self.old end_string) };
 
-    /// Writes `[`. Fails if the writer does.
+    /// Writes `[`, the beginning of an array. Fails if the writer does.
     fn begin_array<W: Sink>(&mut self, writer: &mut W) -> Result<()>
         ensures puts { Puts (W.state writer.old) (W.state writer.new)
             (form.piece self.old (begin_call array)) result }
         ensures next { OnOk result (self.new ≡ form.next self.old (begin_call array)) };
 
-    /// Writes what precedes the end of an array, and `]`. Fails if the writer does.
+    /// Writes the end of an array: the whitespace of the layout, if any, and `]`. Fails if the
+    /// writer does.
     fn end_array<W: Sink>(&mut self, writer: &mut W) -> Result<()>
         ensures puts { Puts (W.state writer.old) (W.state writer.new)
             (form.piece self.old (end_call array)) result }
         ensures next { OnOk result (self.new ≡ form.next self.old (end_call array)) };
 
-    /// Writes what precedes an element: a comma unless it is the first, and the layout. Fails if
-    /// the writer does.
+    /// Writes what precedes an element: a comma unless `first` is true, and the whitespace of the
+    /// layout, if any. Fails if the writer does.
     fn begin_array_value<W: Sink>(&mut self, writer: &mut W, first: bool) -> Result<()>
         ensures puts { Puts (W.state writer.old) (W.state writer.new)
             (form.piece self.old (begin_element first)) result }
         ensures next { OnOk result (self.new ≡ form.next self.old (begin_element first)) };
 
-    /// Writes what follows an element. Fails if the writer does.
+    /// Writes what follows an element, which may be nothing. Fails if the writer does.
     fn end_array_value<W: Sink>(&mut self, writer: &mut W) -> Result<()>
         ensures puts { Puts (W.state writer.old) (W.state writer.new)
             (form.piece self.old end_element) result }
         ensures next { OnOk result (self.new ≡ form.next self.old end_element) };
 
-    /// Writes `{`. Fails if the writer does.
+    /// Writes `{`, the beginning of an object. Fails if the writer does.
     fn begin_object<W: Sink>(&mut self, writer: &mut W) -> Result<()>
         ensures puts { Puts (W.state writer.old) (W.state writer.new)
             (form.piece self.old (begin_call object)) result }
         ensures next { OnOk result (self.new ≡ form.next self.old (begin_call object)) };
 
-    /// Writes what precedes the end of an object, and `}`. Fails if the writer does.
+    /// Writes the end of an object: the whitespace of the layout, if any, and `}`. Fails if the
+    /// writer does.
     fn end_object<W: Sink>(&mut self, writer: &mut W) -> Result<()>
         ensures puts { Puts (W.state writer.old) (W.state writer.new)
             (form.piece self.old (end_call object)) result }
         ensures next { OnOk result (self.new ≡ form.next self.old (end_call object)) };
 
-    /// Writes what precedes a key: a comma unless it is the first, and the layout. Fails if the
-    /// writer does.
+    /// Writes what precedes a key: a comma unless `first` is true, and the whitespace of the
+    /// layout, if any. Fails if the writer does.
     fn begin_object_key<W: Sink>(&mut self, writer: &mut W, first: bool) -> Result<()>
         ensures puts { Puts (W.state writer.old) (W.state writer.new)
             (form.piece self.old (begin_key first)) result }
         ensures next { OnOk result (self.new ≡ form.next self.old (begin_key first)) };
 
-    /// Writes what follows a key. Fails if the writer does.
+    /// Writes what follows a key and precedes the colon, which may be nothing. Fails if the writer
+    /// does.
     fn end_object_key<W: Sink>(&mut self, writer: &mut W) -> Result<()>
         ensures puts { Puts (W.state writer.old) (W.state writer.new)
             (form.piece self.old end_key) result }
         ensures next { OnOk result (self.new ≡ form.next self.old end_key) };
 
-    /// Writes the colon between a key and its value. Fails if the writer does.
+    /// Writes the colon between a key and its value, and the whitespace of the layout, if any.
+    /// Fails if the writer does.
     fn begin_object_value<W: Sink>(&mut self, writer: &mut W) -> Result<()>
         ensures puts { Puts (W.state writer.old) (W.state writer.new)
             (form.piece self.old begin_member) result }
         ensures next { OnOk result (self.new ≡ form.next self.old begin_member) };
 
-    /// Writes what follows a value of an object. Fails if the writer does.
+    /// Writes what follows the value of a member, which may be nothing. Fails if the writer does.
     fn end_object_value<W: Sink>(&mut self, writer: &mut W) -> Result<()>
         ensures puts { Puts (W.state writer.old) (W.state writer.new)
             (form.piece self.old end_member) result }
         ensures next { OnOk result (self.new ≡ form.next self.old end_member) };
 
-    /// Writes a text as it is. Fails if the writer does.
+    /// Writes a JSON text as it is, in place of a value. Fails if the writer does.
     fn write_raw_value<W: Sink>(&mut self, writer: &mut W, raw: &str) -> Result<()>
         ensures puts { Puts (W.state writer.old) (W.state writer.new)
             (form.piece self.old (raw_call raw.now)) result }

@@ -1,6 +1,6 @@
-//! Writes JSON (RFC 8259, section 10) from its parts to any sink: compact, indented or sorted,
-//! through a buffer where that serves. It also exports layouts, styles and the buffered writer of
-//! `json_layout`.
+//! Writes JSON (RFC 8259, section 10) from its parts to any sink, compact, indented or sorted: a
+//! [`Serializer`] takes the parts by the methods of [`Events`]. It also exports layouts, styles and
+//! the buffered writer of `json_layout`.
 //!
 //! ```
 //! use json_print::{Events, Serializer};

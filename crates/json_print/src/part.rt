@@ -27,7 +27,7 @@ pub(crate) enum Part<'a> {
     EndMember,
 }
 
-// An integer, by 64 bits where it has no more.
+// Writes an integer, by 64 bits where it has no more.
 #[inline(always)]
 fn write_int<F: Formatter, W: Sink>(formatter: &mut F, writer: &mut W, value: i128) -> Result<()>
     ensures puts { Puts (W.state writer.old) (W.state writer.new)
@@ -40,7 +40,7 @@ fn write_int<F: Formatter, W: Sink>(formatter: &mut F, writer: &mut W, value: i1
     }
 }
 
-// The same from zero on.
+// Writes an integer from 0 on, by 64 bits where it has no more.
 #[inline(always)]
 pub(crate) fn write_uint<F: Formatter, W: Sink>(
     formatter: &mut F,

@@ -9,7 +9,7 @@ use json_layout::{
     into_result,
 };
 
-/// A formatter that writes each element and each key on a line of its own, after one indent for
+/// A [`Formatter`] that writes each element and each key on a line of its own, after one indent for
 /// each container around it. An empty container is `[]` or `{}`, and `: ` follows a key.
 ///
 /// ```
@@ -32,7 +32,7 @@ pub struct PrettyFormatter<'a> {
 }
 
 impl PrettyFormatter<'static> {
-    /// Indents by two spaces. Nothing was written yet.
+    /// Creates a formatter that indents by two spaces and has written nothing.
     pub fn new() -> PrettyFormatter<'static>
         ensures fresh { ⟦<PrettyFormatter<'static> as Formatter>⟧.fresh result }
         ensures laid { LaidOut pretty_form result (Some (codes "  ")) 0 false }
@@ -42,7 +42,8 @@ impl PrettyFormatter<'static> {
 }
 
 impl<'a> PrettyFormatter<'a> {
-    /// Indents by these bytes. Nothing was written yet.
+    /// Creates a formatter that indents by these bytes, which it borrows and writes as they are. It
+    /// has written nothing.
     pub fn with_indent(indent: &'a [u8]) -> PrettyFormatter<'a>
         ensures fresh { ⟦<PrettyFormatter<'a> as Formatter>⟧.fresh result }
         ensures laid { LaidOut pretty_form result (Some indent.now) 0 false }

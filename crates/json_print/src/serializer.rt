@@ -25,10 +25,13 @@ struct SerializerFailed;
 
 type SerializerResult = std::result::Result<(), SerializerFailed>;
 
-/// Writes the text of a value (RFC 8259) from its parts, by the calls of a formatter.
+/// Writes the JSON text of a value (RFC 8259) to a sink, `W`, from the value's parts, in the layout
+/// of a [`Formatter`], `F`. The parts are given by the methods of [`Events`](crate::Events), from
+/// left to right.
 ///
-/// Calls fail with `Io` at `Writing` where the writer fails, and with `NoMemory` where memory runs
-/// out. Errors are sticky: after an error each call returns the same error and writes nothing.
+/// These methods fail with `Io` at the place `Writing` if the writer fails, and with `NoMemory` if
+/// memory runs out. Errors are sticky: after an error each call returns the same error and writes
+/// nothing.
 ///
 /// ```
 /// use json_print::{Events, Serializer};
@@ -57,7 +60,8 @@ pub struct Serializer<W, F> {
 }
 
 impl<W: Sink> Serializer<W, CompactFormatter> {
-    /// Writes no whitespace. Nothing was written yet.
+    /// Creates a serializer that writes to `writer` without whitespace between the tokens. It has
+    /// written nothing yet. `alloc` allocates what it keeps, such as the list of open containers.
     pub fn new(alloc: Global, writer: W) -> Serializer<W, CompactFormatter>
         ensures starts { out_of W.state result ≡
             start (formatter_of result) false (W.state writer) }
@@ -69,7 +73,8 @@ impl<W: Sink> Serializer<W, CompactFormatter> {
 }
 
 impl<W: Sink> Serializer<W, PrettyFormatter<'static>> {
-    /// Indents by two spaces. Nothing was written yet.
+    /// Creates a serializer that writes to `writer` with an indent of two spaces. It has written
+    /// nothing yet. `alloc` allocates what it keeps, such as the list of open containers.
     pub fn pretty(alloc: Global, writer: W) -> Serializer<W, PrettyFormatter<'static>>
         ensures starts { out_of W.state result ≡
             start (formatter_of result) false (W.state writer) }
@@ -81,7 +86,8 @@ impl<W: Sink> Serializer<W, PrettyFormatter<'static>> {
 }
 
 impl<W: Sink, F: Formatter> Serializer<W, F> {
-    /// Writes by the calls of this formatter, which has written nothing yet.
+    /// Creates a serializer that writes to `writer` by the calls of `formatter`, which must have
+    /// written nothing. `alloc` allocates what it keeps, such as the list of open containers.
     pub fn with_formatter(alloc: Global, writer: W, formatter: F) -> Serializer<W, F>
         requires { F.fresh formatter }
         ensures starts { out_of W.state result ≡ start formatter false (W.state writer) }
@@ -100,8 +106,9 @@ impl<W: Sink, F: Formatter> Serializer<W, F> {
         }
     }
 
-    /// Writes the members of each object in the order of their unescaped keys' bytes, those of one
-    /// key as they came. Nothing was written yet. An object's members wait in memory for its end.
+    /// Returns the serializer with sorting: it writes the members of each object in the order of
+    /// the bytes of their unescaped keys. Members of equal keys keep their order. It must have
+    /// written nothing yet. The members of an object wait in memory for its end.
     pub fn sort_map_keys(mut self) -> Serializer<W, F>
         requires { IsFresh (out_of W.state self) }
         ensures sorts { out_of W.state result ≡ record (out_of W.state self) { sorts = true } }
@@ -111,11 +118,11 @@ impl<W: Sink, F: Formatter> Serializer<W, F> {
         self
     }
 
-    /// Returns the writer. If the calls were those of the tokens of a tree, it has gained the text
-    /// of the tree in the layout of the formatter; if they were the first of these, or an error was
-    /// returned after them, a prefix of that text. Of any formatter it has gained the pieces of the
-    /// calls that reached it, in order. `Io` at `Writing` was returned exactly if a call of the
-    /// writer failed.
+    /// Returns the writer. If the calls gave all parts of a value, the writer has gained the
+    /// value's text in the layout of the formatter. If they gave some first parts of it, also up to
+    /// an error, it has gained a prefix of that text. For any formatter, it has gained the pieces
+    /// of the calls that reached it, in order. `Io` at the place `Writing` was returned exactly if
+    /// a call of the writer failed.
     pub fn into_inner(self) -> W
     where
         F: Drop,

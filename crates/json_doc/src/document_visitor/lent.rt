@@ -12,7 +12,8 @@ use super::DocumentVisitor;
 use json_text::Span;
 
 impl DocumentVisitor {
-    /// Does what `visit_raw_number` does, of a literal that is in the input from `from` on.
+    /// Does what `visit_raw_number` does, of a literal that is in the input from the offset `from`
+    /// on.
     #[inline(always)]
     pub(crate) fn take_raw_number(&mut self, literal: &str, input: &[u8], from: usize) -> bool
         requires number { number literal.now }
@@ -35,7 +36,8 @@ impl DocumentVisitor {
         true
     }
 
-    /// `visit_str`, of a string that is in the input from `from` on.
+    /// Does what `visit_str` does, of a string whose bytes between the quotes are in the input from
+    /// the offset `from` on.
     #[inline(always)]
     pub(crate) fn take_str(&mut self, s: Span<'_>, input: &[u8], from: usize) -> bool
         requires come { (visitor_state self.old).full ≡ false
@@ -58,7 +60,8 @@ impl DocumentVisitor {
         true
     }
 
-    /// `visit_key`, of a key that is in the input from `from` on.
+    /// Does what `visit_key` does, of a key whose bytes between the quotes are in the input from
+    /// the offset `from` on.
     #[inline(always)]
     pub(crate) fn take_key(&mut self, s: Span<'_>, input: &[u8], from: usize) -> bool
         requires come { (visitor_state self.old).full ≡ false
