@@ -45,11 +45,11 @@ TokensArePath =
 
 -- ---- patches (RFC 6902)
 
--- `add_at` at the root replaces the whole tree
+-- `add` at the root replaces the whole tree
 abbrev pub AddAtRoot : Type 0
 AddAtRoot = (u t : Tree) → applied (add_at [] u) t ≡ lookup_outcome (edited_once (set_at [] u) t)
 
--- `add_at` inserts into an object, and `add_at` of `-` pushes onto an array
+-- `add` inserts into an object, and `add` of `-` pushes onto an array
 abbrev pub AddIsInsert : Type 0
 AddIsInsert =
     (p : List ReferenceToken) (k : ReferenceToken) (u t : Tree) (q : List Step) (ps : Pairs)
@@ -94,7 +94,7 @@ MoveIsRemoveAndAdd = (q p : List ReferenceToken) (t u : Tree) → q ≢ p → va
 abbrev pub MoveToItself : Type 0
 MoveToItself = (p : List ReferenceToken) (t u : Tree) → value_at_pointer p t ≡ Ok u → applied (move p p) t ≡ Ok t
 
--- `remove` undoes `add_at` of a new member, and of an element
+-- `remove` undoes `add` of a new member, and of an element
 abbrev pub AddThenRemoveMember : Type 0
 AddThenRemoveMember =
     (p : List ReferenceToken) (k : ReferenceToken) (u t : Tree) (ps : Pairs)

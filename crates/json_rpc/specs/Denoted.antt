@@ -27,8 +27,8 @@ request_seen r = record { method = r.method.now; params = option_map seen r.para
 
 -- what an operation asks for
 abbrev pub operation_denoted : RequestedOperation → methods.MethodOperation
-operation_denoted (Get p) = methods.respond_to_get (path_steps p)
-operation_denoted (Change e) = methods.change_document (edit_of e)
+operation_denoted (Get p) = methods.get (path_steps p)
+operation_denoted (Change e) = methods.change (edit_of e)
 
 -- what a line that was read is
 abbrev pub message_denoted : Message → serve.Message

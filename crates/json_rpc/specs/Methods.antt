@@ -11,8 +11,8 @@ use Rattle.json_rpc.specs.declared.error.RpcError.TheVariants.{MethodNotFound, I
 
 -- what is asked of the document: the tree that a path leads to, or an edit
 pub data MethodOperation : Type 0 where
-  respond_to_get : List Step → MethodOperation
-  change_document : Edit → MethodOperation
+  get : List Step → MethodOperation
+  change : Edit → MethodOperation
 
 -- ---- methods and params
 
@@ -30,15 +30,15 @@ abbrev pub positional_params : Option Tree → List Tree
 positional_params (Some (list ts)) = trees_list ts
 positional_params _ = []
 
--- what `respond_to_get` asks for with these params: [path]
+-- what `get` asks for with these params: [path]
 abbrev pub get_with : List Tree → Option MethodOperation
-get_with (p ∷ []) = option_map respond_to_get (path_in p)
+get_with (p ∷ []) = option_map get (path_in p)
 get_with _ = None
 
 -- what a method asks for with these params: those of an edit are the elements after its name in
 -- an edits argument
 abbrev pub operation_with : List ℕ → List Tree → Option MethodOperation
-operation_with name params = cond (bytes_eq name (codes "get")) (get_with params) (option_map change_document (edit_named name params))
+operation_with name params = cond (bytes_eq name (codes "get")) (get_with params) (option_map change (edit_named name params))
 
 -- what a request asks for, or the error that it gets
 abbrev pub requested_operation : Request → Result MethodOperation RpcError
@@ -64,5 +64,5 @@ tree_at_path (s ∷ p) t = elim (step_into s t) [ Ok u ↦ tree_at_path p u | Er
 
 -- the next document and the result, or the error
 abbrev pub performed : MethodOperation → Tree → Result (Tree × Tree) RpcError
-performed (respond_to_get p) t = result_map_both (λ u. (t, u)) rpc_error_of (tree_at_path p t)
-performed (change_document e) t = result_map_both (λ u. (u, null)) rpc_error_of (edited_once e t)
+performed (get p) t = result_map_both (λ u. (t, u)) rpc_error_of (tree_at_path p t)
+performed (change e) t = result_map_both (λ u. (u, null)) rpc_error_of (edited_once e t)

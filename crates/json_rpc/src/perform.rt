@@ -5,7 +5,7 @@ ghost use Rattle.json_model.specs.Edit.{edited_once};
 ghost use Rattle.json_value.specs.Denotes.{tree_of};
 ghost use Rattle.json_value.specs.Edits.{step_of, steps_of, path_steps, edit_of};
 ghost use Rattle.json_value.specs.Seen.{seen};
-ghost use Rattle.json_rpc.specs.Methods.{rpc_error_of, step_into, tree_at_path, respond_to_get as get_at, change_document as change_by, performed};
+ghost use Rattle.json_rpc.specs.Methods.{rpc_error_of, step_into, tree_at_path, get as get_at, change as change_by, performed};
 ghost use Rattle.json_rpc.specs.Perform.{container_type, Applies};
 ghost use Rattle.json_rpc.specs.Serving.{responded};
 ghost use Rattle.json_io.specs.Errors.{OnlyNoMemory};
