@@ -116,9 +116,9 @@ source_in verb.Merge w = file_in (codes "--merge") w
 source_in _ w = None
 
 -- one more path, which an option of `get` names
-abbrev pub path_named : Verb → List ℕ → Option (List ℕ)
-path_named verb.Get w = file_in (codes "--path") w
-path_named _ w = None
+abbrev pub path_in_option : Verb → List ℕ → Option (List ℕ)
+path_in_option verb.Get w = file_in (codes "--path") w
+path_in_option _ w = None
 
 -- a word is an option: it begins with a hyphen, and no digit follows, as in a number
 abbrev pub is_option_argument : List ℕ → Bool

@@ -12,7 +12,7 @@ use Rattle.mezdruk_arguments.specs.declared.setting.RequestedLayout.TheVariants.
 use Rattle.mezdruk_arguments.specs.declared.setting.Settings.{Settings}
 use Rattle.mezdruk_arguments.specs.declared.line.ArgumentRole.{ArgumentRole}
 use Rattle.mezdruk_arguments.specs.declared.line.ArgumentRole.TheVariants as role
-use Rattle.mezdruk_arguments.specs.Arguments.{verb_in, setting_in, takes, source_in, path_named, option_value, operands_of, kind_read, is_option_argument, is_standard_input, no_settings, with_setting, rules_of_stream}
+use Rattle.mezdruk_arguments.specs.Arguments.{verb_in, setting_in, takes, source_in, path_in_option, option_value, operands_of, kind_read, is_option_argument, is_standard_input, no_settings, with_setting, rules_of_stream}
 use Rattle.mezdruk_arguments.specs.Operands.{IsOperand}
 use Rattle.json_command.specs.Options.{width_in}
 
@@ -60,7 +60,7 @@ is_width_name v w = bytes_eq w (codes "--indent") && takes v (setting.Layout Com
 
 -- an option of a command
 abbrev pub option_role : Verb → List ℕ → ArgumentRole
-option_role v w = cond (is_some (source_in v w)) role.Source (cond (is_some (path_named v w)) role.Path (cond (is_width_name v w) role.WidthName (elim (setting_in w) [ Some x ↦ cond (takes v x) (role.Setting x) role.Unknown | None ↦ role.Unknown ])))
+option_role v w = cond (is_some (source_in v w)) role.Source (cond (is_some (path_in_option v w)) role.Path (cond (is_width_name v w) role.WidthName (elim (setting_in w) [ Some x ↦ cond (takes v x) (role.Setting x) role.Unknown | None ↦ role.Unknown ])))
 
 -- an operand as long as one is missing, and then a file
 abbrev pub operand_role : Option OperandKind → ArgumentRole

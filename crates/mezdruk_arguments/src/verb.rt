@@ -1,7 +1,7 @@
 // The commands.
 ghost use Rattle.std.specs.Prelude.{◌≡◌, option_map};
 ghost use Rattle.mezdruk_arguments.specs.Edits.{verb_name};
-ghost use Rattle.mezdruk_arguments.specs.Arguments.{verb_in, operands_of, takes, file_in, source_in, path_named};
+ghost use Rattle.mezdruk_arguments.specs.Arguments.{verb_in, operands_of, takes, file_in, source_in, path_in_option};
 
 use crate::operand::OperandKind;
 use crate::setting::Setting;
@@ -134,7 +134,7 @@ impl Verb {
 
     /// Returns the path that an option names, or `None` if it names none.
     pub(crate) fn named_path<'a>(self, word: &'a str) -> Option<&'a str>
-        ensures { option_map (λ s. s.now) result ≡ path_named self word.entry.now }
+        ensures { option_map (λ s. s.now) result ≡ path_in_option self word.entry.now }
     {
         match self {
             Verb::Get => text_after_name(word, "--path"),

@@ -7,7 +7,7 @@ use Rattle.json_value.specs.Denotes.{tree_of}
 use Rattle.json_value.specs.declared.value.Value.{Value}
 use Rattle.mezdruk_files.specs.declared.change_error.ChangeError.{ChangeError}
 use Rattle.mezdruk_files.specs.declared.value_path.ValuePath.{ValuePath}
-use Rattle.mezdruk_files.specs.ValuePaths.{tree_at_path, tree_or_not_there, after_trees, and_trees, trees_at}
+use Rattle.mezdruk_files.specs.ValuePaths.{tree_at_value_path, tree_or_not_there, after_trees, and_trees, trees_at}
 
 after_none : (r : Result (List Tree) ChangeError) → after_trees [] r ≡ r
 after_none (Ok trees) = refl
@@ -25,16 +25,16 @@ module _ (paths : List ValuePath) (tree : Tree) where
   pub none_yet : IsSoFar paths tree [] 0
   none_yet = sym (after_none (trees_at 0 paths tree))
 
-  next_path : (i : ℕ) (p : ValuePath) → i < length paths → p ≡ slice_index_or paths i p → trees_at i (drop i paths) tree ≡ and_trees (tree_or_not_there i (tree_at_path p tree)) (trees_at (i + 1) (drop (i + 1) paths) tree)
+  next_path : (i : ℕ) (p : ValuePath) → i < length paths → p ≡ slice_index_or paths i p → trees_at i (drop i paths) tree ≡ and_trees (tree_or_not_there i (tree_at_value_path p tree)) (trees_at (i + 1) (drop (i + 1) paths) tree)
   next_path i p l is = ap (λ ps. trees_at i ps tree) (drop_more paths i p l ∙ ap (λ x. x ∷ drop (i + 1) paths) (sym is))
 
-  pub one_more : (values : List Value) (i : ℕ) (p : ValuePath) (v : Value) → i < length paths → p ≡ slice_index_or paths i p → tree_or_not_there i (tree_at_path p tree) ≡ Ok (tree_of v) → IsSoFar paths tree values i → IsSoFar paths tree (values ++ v ∷ []) (i + 1)
+  pub one_more : (values : List Value) (i : ℕ) (p : ValuePath) (v : Value) → i < length paths → p ≡ slice_index_or paths i p → tree_or_not_there i (tree_at_value_path p tree) ≡ Ok (tree_of v) → IsSoFar paths tree values i → IsSoFar paths tree (values ++ v ∷ []) (i + 1)
   one_more values i p v l is found so_far =
       let later = trees_at (i + 1) (drop (i + 1) paths) tree in
       so_far ∙ ap (after_trees (map tree_of values)) (next_path i p l is ∙ ap (λ r. and_trees r later) found)
       ∙ after_one (map tree_of values) (tree_of v) later ∙ ap (λ ts. after_trees ts later) (sym (map-append tree_of values (v ∷ [])))
 
-  pub fails_at : (values : List Value) (i : ℕ) (p : ValuePath) (e : ChangeError) → i < length paths → p ≡ slice_index_or paths i p → tree_or_not_there i (tree_at_path p tree) ≡ Err e → IsSoFar paths tree values i → trees_at 0 paths tree ≡ Err e
+  pub fails_at : (values : List Value) (i : ℕ) (p : ValuePath) (e : ChangeError) → i < length paths → p ≡ slice_index_or paths i p → tree_or_not_there i (tree_at_value_path p tree) ≡ Err e → IsSoFar paths tree values i → trees_at 0 paths tree ≡ Err e
   fails_at values i p e l is found so_far =
       so_far ∙ ap (after_trees (map tree_of values)) (next_path i p l is ∙ ap (λ r. and_trees r (trees_at (i + 1) (drop (i + 1) paths) tree)) found)
 

@@ -14,9 +14,9 @@ use Rattle.mezdruk_files.specs.declared.value_path.ValuePath.{ValuePath}
 use Rattle.mezdruk_files.specs.declared.value_path.ValuePath.TheVariants.{Pointer, Steps}
 
 -- the tree at a path, if there is one
-abbrev pub tree_at_path : ValuePath → Tree → Option Tree
-tree_at_path (Pointer p) tree = result_ok (value_at_pointer (pointer_tokens p) tree)
-tree_at_path (Steps p) tree = tree_at (path_steps p) tree
+abbrev pub tree_at_value_path : ValuePath → Tree → Option Tree
+tree_at_value_path (Pointer p) tree = result_ok (value_at_pointer (pointer_tokens p) tree)
+tree_at_value_path (Steps p) tree = tree_at (path_steps p) tree
 
 -- ---- several paths
 
@@ -42,7 +42,7 @@ and_trees (Err error) later = Err error
 -- the trees at the paths, the first of which has this number
 abbrev pub trees_at : ℕ → List ValuePath → Tree → Result (List Tree) ChangeError
 trees_at number [] tree = Ok []
-trees_at number (p ∷ ps) tree = and_trees (tree_or_not_there number (tree_at_path p tree)) (trees_at (number + 1) ps tree)
+trees_at number (p ∷ ps) tree = and_trees (tree_or_not_there number (tree_at_value_path p tree)) (trees_at (number + 1) ps tree)
 
 -- the array of the trees
 abbrev pub array_of : Result (List Tree) ChangeError → Result Tree ChangeError
@@ -56,8 +56,8 @@ abbrev pub wrong_kind : ChangeError
 wrong_kind = record { code = code.TypeUnmatched; number = None }
 
 -- the keys of an object, in the order of its members
-abbrev pub keys_of : Tree → Option (List Tree)
-keys_of tree = option_map (λ members. map (λ m. text m.0) members) (object_pairs tree)
+abbrev pub key_texts : Tree → Option (List Tree)
+key_texts tree = option_map (λ members. map (λ m. text m.0) members) (object_pairs tree)
 
 -- how many elements an array has, or members an object
 abbrev pub length_of : Tree → Option ℕ

@@ -1,7 +1,7 @@
 // The values at several paths as a change.
 ghost use Rattle.std.specs.Prelude.{◌≡◌, ◌⊎◌, Ok, Err, map, IfOk, IfErr};
 ghost use Rattle.mezdruk_files.specs.Changes.{ChangeFails, out_of_memory};
-ghost use Rattle.mezdruk_files.specs.ValuePaths.{tree_at_path, not_there_at as not_found_at, tree_or_not_there, trees_at, array_of};
+ghost use Rattle.mezdruk_files.specs.ValuePaths.{tree_at_value_path, not_there_at as not_found_at, tree_or_not_there, trees_at, array_of};
 ghost use Rattle.json_value.specs.Denotes.{tree_of};
 ghost use Rattle.json_value.specs.Seen.{seen};
 
@@ -56,9 +56,9 @@ fn value_at(
     root: View<'_>,
 ) -> Result<Value, ChangeError>
     ensures ok { IfOk result (λ value.
-        tree_or_not_there number (tree_at_path path.now (seen root.entry)) ≡ Ok (tree_of value)) }
+        tree_or_not_there number (tree_at_value_path path.now (seen root.entry)) ≡ Ok (tree_of value)) }
     ensures err { IfErr result (ChangeFails
-        (tree_or_not_there number (tree_at_path path.now (seen root.entry)))) }
+        (tree_or_not_there number (tree_at_value_path path.now (seen root.entry)))) }
 {
     let Some(view) = path.find(root) else {
         return Err(not_there_at(number));

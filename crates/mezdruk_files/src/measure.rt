@@ -2,7 +2,7 @@
 ghost use Rattle.std.specs.Prelude.{◌≡◌, ◌++◌, Ok, map, length, IfOk, IfErr, option_map};
 ghost use Rattle.json_grammar.specs.Tree.{text, list, list_trees};
 ghost use Rattle.mezdruk_files.specs.Changes.{ChangeFails};
-ghost use Rattle.mezdruk_files.specs.ValuePaths.{tree_at_path, keys_of, length_of as length_in, found_in, array_of, length_number};
+ghost use Rattle.mezdruk_files.specs.ValuePaths.{tree_at_value_path, key_texts, length_of as length_in, found_in, array_of, length_number};
 ghost use Rattle.json_io.specs.Errors.{OnlyNoMemory};
 ghost use Rattle.json_value.specs.Denotes.{tree_of};
 ghost use Rattle.json_value.specs.Seen.{seen, members_seen};
@@ -79,9 +79,9 @@ fn collect_keys(alloc: Global, object: ObjectView<'_>) -> json_io::Result<Vec<Va
 // Returns the array of the keys of the object that was found.
 fn keys_value(alloc: Global, found: Option<View<'_>>) -> Result<Value, ChangeError>
     ensures ok { IfOk result (λ value.
-        array_of (found_in keys_of (option_map seen found.entry)) ≡ Ok (tree_of value)) }
+        array_of (found_in key_texts (option_map seen found.entry)) ≡ Ok (tree_of value)) }
     ensures err { IfErr result (ChangeFails
-        (array_of (found_in keys_of (option_map seen found.entry)))) }
+        (array_of (found_in key_texts (option_map seen found.entry)))) }
 {
     let Some(view) = found else {
         return Err(NOT_THERE);
@@ -125,9 +125,9 @@ fn length_value(found: Option<View<'_>>) -> Result<Value, ChangeError>
 }
 
 impl<'a> ValueChange for GetKeys<'a> {
-    ghost use Rattle.mezdruk_files.specs.ValuePaths.{tree_at_path, keys_of, found_in, array_of};
+    ghost use Rattle.mezdruk_files.specs.ValuePaths.{tree_at_value_path, key_texts, found_in, array_of};
 
-    ghost changed = { λ change tree. array_of (found_in keys_of (tree_at_path change.path.now tree)) };
+    ghost changed = { λ change tree. array_of (found_in key_texts (tree_at_value_path change.path.now tree)) };
 
     fn apply(&self, alloc: Global, value: &mut Value) -> Result<(), ChangeError> {
         let keys = keys_value(alloc, self.path.find(value.view()));
@@ -146,10 +146,10 @@ impl<'a> ValueChange for GetKeys<'a> {
 }
 
 impl<'a> ValueChange for GetLength<'a> {
-    ghost use Rattle.mezdruk_files.specs.ValuePaths.{tree_at_path, length_of, found_in, length_number};
+    ghost use Rattle.mezdruk_files.specs.ValuePaths.{tree_at_value_path, length_of, found_in, length_number};
 
     ghost changed = { λ change tree.
-        length_number (found_in length_of (tree_at_path change.path.now tree)) };
+        length_number (found_in length_of (tree_at_value_path change.path.now tree)) };
 
     fn apply(&self, alloc: Global, value: &mut Value) -> Result<(), ChangeError> {
         let _ = alloc;

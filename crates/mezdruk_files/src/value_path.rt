@@ -31,11 +31,11 @@ pub enum ValuePath {
 }
 
 impl ValuePath {
-    ghost use Rattle.mezdruk_files.specs.ValuePaths.{tree_at_path};
+    ghost use Rattle.mezdruk_files.specs.ValuePaths.{tree_at_value_path};
 
     /// Returns the value there, or `None` if there is none.
     pub fn find<'a>(&self, root: View<'a>) -> Option<View<'a>>
-        ensures { option_map seen result ≡ tree_at_path self.now (seen root.entry) }
+        ensures { option_map seen result ≡ tree_at_value_path self.now (seen root.entry) }
     {
         match self {
             ValuePath::Pointer(pointer) => pointer.find(root),
