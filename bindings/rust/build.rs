@@ -1,11 +1,11 @@
-//! Finds the C library: in the folder `MEZDRUK_DIR` that `tools/build_c` made, or by pkg-config.
+//! Finds the C library: in the folder `MEZDRUK_DIR` that `tools/make/build_c` made, or by pkg-config.
 
 use std::env;
 use std::path::{Path, PathBuf};
 use std::process::{exit, Command};
 
 const HELP: &str = "\
-mezdruk: the C library libmezdruk.a is not found. Make it by `tools/build_c OUT` in Mezdruk's
+mezdruk: the C library libmezdruk.a is not found. Make it by `tools/make/build_c OUT` in Mezdruk's
 repository, and either set MEZDRUK_DIR to the absolute path of OUT, or set PKG_CONFIG_PATH to
 OUT/lib/pkgconfig; or install the package libmezdruk-dev.";
 
