@@ -12,7 +12,7 @@ PAGES = ("CONTRIBUTING.md", "docs/ARCHITECTURE.md", "docs/CLAIMS.md", "docs/DECI
 
 
 def crates(top=TOP):
-    return [line.split(":")[0].split()[0] for line in (top / "crates.txt").read_text().splitlines() if ":" in line]
+    return [line.split(":")[0].split()[0] for line in (top / "crates.txt").read_text().splitlines() if re.match("[a-z]", line)]
 
 
 def edits_of(crate, top=TOP):

@@ -20,6 +20,7 @@ true, and an edit is kept because what it makes false is none.
 """
 import collections
 import hashlib
+import re
 import subprocess
 
 from edits import TOP, all_of, crates, is_inside, pairs_of
@@ -77,7 +78,7 @@ class Sums:
 
     def __init__(self, top=TOP):
         self.top, self.parsed, self.bases = top, {}, {}
-        lines = [line.partition(":") for line in (top / "crates.txt").read_text().splitlines() if ":" in line]
+        lines = [line.partition(":") for line in (top / "crates.txt").read_text().splitlines() if re.match("[a-z]", line)]
         self.below = {name.split()[0]: below.split() for name, _, below in lines}
         self.version = subprocess.run(["rt", "version"], stdout=subprocess.PIPE, text=True, check=True).stdout
 
