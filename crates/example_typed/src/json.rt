@@ -1,4 +1,4 @@
-// Written by tools/derive from the structs of the file above: edit those and run it again.
+// Written by tools/make/derive from the structs of the file above: edit those and run it again.
 ghost use Rattle.std.specs.Prelude.{[], ◌∷◌, codes, false, pos, true};
 ghost use Rattle.mezdruk_json.specs.Datum.{boolean_datum, integer_datum, list_data, null_datum};
 ghost use Rattle.mezdruk_json.specs.Fields.{field_datum, or_default, read_struct as spec_read_struct, required as needed, struct_datum};

@@ -14,7 +14,7 @@ use json_tokens::{InputStr, Tokens, error_without_place};
 use std::alloc::Global;
 
 /// The fields of a struct as far as they were read from the members of an object, each of which may
-/// still be missing. `tools/derive` writes the impls.
+/// still be missing. `tools/make/derive` writes the impls.
 ///
 /// ```
 /// use json_data::from_str;

@@ -1,7 +1,7 @@
 //! Reads a struct from an object, member by member, and says what it means: the calls that the code
-//! uses which `tools/derive` writes.
+//! uses which `tools/make/derive` writes.
 //!
-//! A struct is marked by a comment. `tools/derive crates/NAME` writes its impls of
+//! A struct is marked by a comment. `tools/make/derive crates/NAME` writes its impls of
 //! [`DeserializeFrom`] and [`Serialize`] into the module `json` beside it:
 //!
 //! ```text

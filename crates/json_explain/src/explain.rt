@@ -24,8 +24,8 @@ use std::alloc::Global;
 /// assert_eq!(rt; format!(in alloc; "{refusal}")?.as_str(), "/1");
 /// ```
 ///
-/// `tools/derive` writes the impl of a struct. A type that refuses whole values alone needs one
-/// call:
+/// `tools/make/derive` writes the impl of a struct. A type that refuses whole values alone needs
+/// one call:
 ///
 /// ```text
 /// impl<S: InputStr> Explain<S> for Colour {

@@ -49,10 +49,10 @@
 //!
 //! # Structs, and errors that name the value
 //!
-//! A struct is read and written by a comment above it, `// json: derive`: `tools/derive` writes its
-//! impls. [`explain::from_str`] reads as [`from_str`] does. If the type refuses a value within the
-//! text, its error names the value by its path, its line and its column, or the member that is
-//! missing.
+//! A struct is read and written by a comment above it, `// json: derive`: `tools/make/derive`
+//! writes its impls. [`explain::from_str`] reads as [`from_str`] does. If the type refuses a value
+//! within the text, its error names the value by its path, its line and its column, or the member
+//! that is missing.
 //!
 //! ```
 //! use mezdruk_json::explain::from_str;

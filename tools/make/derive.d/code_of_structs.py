@@ -2,7 +2,7 @@
 import re
 from dataclasses import dataclass
 
-HEAD = "// Written by tools/derive from the structs of the file above: edit those and run it again."
+HEAD = "// Written by tools/make/derive from the structs of the file above: edit those and run it again."
 
 
 def chain(items, indent):

@@ -1,4 +1,4 @@
-// Written by tools/derive from the structs of the file above: edit those and run it again.
+// Written by tools/make/derive from the structs of the file above: edit those and run it again.
 ghost use Rattle.std.specs.Prelude.{[], ◌∷◌, codes, false, true};
 ghost use Rattle.json_derive.specs.Datum.{list_data, list_datum, no_data, no_rows, rows_datum};
 ghost use Rattle.json_derive.specs.Fields.{field_datum, or_default, read_struct as spec_read_struct, required as needed, struct_datum};
