@@ -9,7 +9,7 @@ use Rattle.json_data.proofs.NumberKeys.{key_in, key_absent, key_out}
 use Rattle.json_data.proofs.integer_keys.key_between.Goals as goal
 
 pub returns-in-Err-clause-err : goal.returns-in-Err-clause-err
-returns-in-Err-clause-err g c = key_absent (λ (s : List ℕ). Says s c.args.key.escaped (g.S.Lent.bytes c.args.key.text)) (is_between c.args.low c.args.high) c.in-Err.e c.in-Err.ensures.err
+returns-in-Err-clause-err g c = key_absent (λ (s : List ℕ). Says s c.args.key.escaped (g.S.InputStr.bytes c.args.key.text)) (is_between c.args.low c.args.high) c.in-Err.e c.in-Err.ensures.err
 
 pub returns-in-Ok-integer_in_range-clause-ok : goal.returns-in-Ok-integer_in_range-clause-ok
 returns-in-Ok-integer_in_range-clause-ok g c = λ s h.
@@ -19,5 +19,5 @@ returns-in-Ok-integer_in_range-clause-ok g c = λ s h.
 
 pub returns-in-Err-integer_in_range-clause-err : goal.returns-in-Err-integer_in_range-clause-err
 returns-in-Err-integer_in_range-clause-err g c =
-    key_out (λ (s : List ℕ). Says s c.args.key.escaped (g.S.Lent.bytes c.args.key.text)) (is_between c.args.low c.args.high) c.in-Err-integer_in_range.e c.in-Err-integer_in_range.ensures.refusal
+    key_out (λ (s : List ℕ). Says s c.args.key.escaped (g.S.InputStr.bytes c.args.key.text)) (is_between c.args.low c.args.high) c.in-Err-integer_in_range.e c.in-Err-integer_in_range.ensures.refusal
     (λ s h. let k = c.in-Ok.ensures.ok s h in (k.0, (c.in-Err-integer_in_range.ensures.err (whole_in s) k.1).0))

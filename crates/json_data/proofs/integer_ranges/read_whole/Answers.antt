@@ -15,5 +15,5 @@ returns-then-eq-clause-ok g c =
 
 pub returns-then-eq-2-clause-ok : goal.returns-then-eq-2-clause-ok
 returns-then-eq-2-clause-ok g c =
-    let l = g.S.Lent.bytes c.in_ok-literal.literal in
+    let l = g.S.InputStr.bytes c.in_ok-literal.literal in
     (num l, peek_tree c.in_ok-kind.ensures.ok c.in_ok-kind.ensures.none c.in_ok-literal.ensures.ok, subst (λ (b : List ℕ). IsIntegerLiteral (whole_in b) c.integer_literal.result) c.as_text.ensures c.integer_literal.ensures)

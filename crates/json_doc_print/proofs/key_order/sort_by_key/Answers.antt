@@ -9,7 +9,7 @@ use Rattle.json_doc_print.proofs.key_order.sort_by_key.Goals as goal
 
 pub returns : goal.returns
 returns g c =
-    let key = g.K.Keys.key_of c.args.keys.now in
+    let key = g.K.MemberKeys.key_of c.args.keys.now in
     let f = fronted_pair key in
     order_by_fronts key c.args.entries.now c.sort_unstable_by.new.self c.requires.entries (sort_orders f c.args.entries.now c.sort_unstable_by.new.self (rise_fronted key c.args.entries.now c.requires.rise) c.sort_unstable_by.ensures.permutation
     (c.sort_unstable_by.ensures.sorted (λ x y. is_lt (numbered_cmp (f x) (f y))) (ranks_by total f)

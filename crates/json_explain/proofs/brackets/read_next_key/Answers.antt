@@ -8,5 +8,5 @@ pub returns-clause-ok : goal.returns-clause-ok
 returns-clause-ok g c =
     let r = c.in_ok-piece.ensures.ok in
     let p = c.in-Key.piece in
-    let q : (s : List ℕ) × Says s p.escaped (g.S.Lent.bytes p.text) × (r.0 ≡ key_token s) = rw c.in-Key.is at r.1 in
+    let q : (s : List ℕ) × Says s p.escaped (g.S.InputStr.bytes p.text) × (r.0 ≡ key_token s) = rw c.in-Key.is at r.1 in
     (q.0, q.1, subst (λ (x : Tok). TakesOne g.T.Tokens.taken g.T.Tokens.state c.args.tokens.now c.next.new.self x) q.2 r.2)

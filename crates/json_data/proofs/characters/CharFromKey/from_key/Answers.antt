@@ -13,7 +13,7 @@ returns-in-Some-clause-ok g c = λ s h.
 
 pub returns-clause-err : goal.returns-clause-err
 returns-clause-err g c =
-    no_key (λ (s : List ℕ). Says s c.args.key.now.escaped (g.S.Lent.bytes c.args.key.now.text)) one_character _ c.error_without_place.ensures
+    no_key (λ (s : List ℕ). Says s c.args.key.now.escaped (g.S.InputStr.bytes c.args.key.now.text)) one_character _ c.error_without_place.ensures
     (λ s h.
     let e : c.as_str.result.now ≡ s = c.as_str.ensures.value ∙ sym (c.in_ok-text.ensures.ok s h) in
     none_read s (subst (λ (b : List ℕ). length (chars b) ≢ 1) e c.in-None.ensures))

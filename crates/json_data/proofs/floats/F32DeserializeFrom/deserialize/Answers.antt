@@ -22,7 +22,7 @@ returns-in-None-clause-err g c =
 
 pub returns-in-Some-f32_of-clause-ok : goal.returns-in-Some-f32_of-clause-ok
 returns-in-Some-f32_of-clause-ok g c =
-    let l = g.S.Lent.bytes c.in_ok-literal.literal in
+    let l = g.S.InputStr.bytes c.in_ok-literal.literal in
     record {
       tree = num l;
       takes = peek_tree c.in_ok-kind.ensures.ok c.in_ok-kind.ensures.none c.in_ok-literal.ensures.ok;
@@ -31,6 +31,6 @@ returns-in-Some-f32_of-clause-ok g c =
 
 pub returns-in-None-f32_of-clause-err : goal.returns-in-None-f32_of-clause-err
 returns-in-None-f32_of-clause-err g c =
-    let l = g.S.Lent.bytes c.in_ok-literal.literal in
+    let l = g.S.InputStr.bytes c.in_ok-literal.literal in
     out_of_range c.error_without_place-in-None-f32_of.ensures (peek_tree c.in_ok-kind.ensures.ok c.in_ok-kind.ensures.none c.in_ok-literal.ensures.ok)
     (float_beyond binary32 l _ (c.f32_of.ensures.single ∙ ap (float_in binary32) c.as_text.ensures) c.in-None-f32_of.is)

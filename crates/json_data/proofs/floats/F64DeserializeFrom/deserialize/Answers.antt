@@ -22,7 +22,7 @@ returns-in-None-clause-err g c =
 
 pub returns-in-Some-f64_of-clause-ok : goal.returns-in-Some-f64_of-clause-ok
 returns-in-Some-f64_of-clause-ok g c =
-    let l = g.S.Lent.bytes c.in_ok-literal.literal in
+    let l = g.S.InputStr.bytes c.in_ok-literal.literal in
     record {
       tree = num l;
       takes = peek_tree c.in_ok-kind.ensures.ok c.in_ok-kind.ensures.none c.in_ok-literal.ensures.ok;
@@ -31,6 +31,6 @@ returns-in-Some-f64_of-clause-ok g c =
 
 pub returns-in-None-f64_of-clause-err : goal.returns-in-None-f64_of-clause-err
 returns-in-None-f64_of-clause-err g c =
-    let l = g.S.Lent.bytes c.in_ok-literal.literal in
+    let l = g.S.InputStr.bytes c.in_ok-literal.literal in
     out_of_range c.error_without_place-in-None-f64_of.ensures (peek_tree c.in_ok-kind.ensures.ok c.in_ok-kind.ensures.none c.in_ok-literal.ensures.ok)
     (float_beyond binary64 l _ (c.f64_of.ensures.double ∙ ap (float_in binary64) c.as_text.ensures) c.in-None-f64_of.is)

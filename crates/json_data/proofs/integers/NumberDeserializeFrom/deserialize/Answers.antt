@@ -16,13 +16,13 @@ returns-then-eq-clause-ok g c =
 
 pub returns-in-NotInteger-clause-err : goal.returns-in-NotInteger-clause-err
 returns-in-NotInteger-clause-err g c =
-    let l = g.S.Lent.bytes c.in_ok-literal.literal in
+    let l = g.S.InputStr.bytes c.in_ok-literal.literal in
     let w : IsIntegerLiteral (whole_in l) c.integer_literal.result = subst (λ (b : List ℕ). IsIntegerLiteral (whole_in b) c.integer_literal.result) c.as_text.ensures c.integer_literal.ensures in
     let e : whole_in l ≡ None = subst (λ (x : IntegerLiteral). IsIntegerLiteral (whole_in l) x) c.in-NotInteger.is w in
     mismatch c.error_without_place-in-NotInteger.ensures (peek_tree c.in_ok-kind.ensures.ok c.in_ok-kind.ensures.none c.in_ok-literal.ensures.ok) (no_integer l c.in_ok-literal.ensures.value.0 e)
 
 pub returns-in_default-clause-err : goal.returns-in_default-clause-err
 returns-in_default-clause-err g c =
-    let l = g.S.Lent.bytes c.in_ok-literal.literal in
+    let l = g.S.InputStr.bytes c.in_ok-literal.literal in
     let w : IsIntegerLiteral (whole_in l) c.integer_literal.result = subst (λ (b : List ℕ). IsIntegerLiteral (whole_in b) c.integer_literal.result) c.as_text.ensures c.integer_literal.ensures in
     out_of_range c.error_without_place-in_default.ensures (peek_tree c.in_ok-kind.ensures.ok c.in_ok-kind.ensures.none c.in_ok-literal.ensures.ok) (beyond l c.integer_literal.result c.in_ok-literal.ensures.value.0 w c.in_default.not-NotInteger)

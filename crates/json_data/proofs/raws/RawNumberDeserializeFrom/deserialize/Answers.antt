@@ -32,7 +32,7 @@ returns-then-eq-clause-ok g c =
 
 pub returns-then-eq-2-clause-ok : goal.returns-then-eq-2-clause-ok
 returns-then-eq-2-clause-ok g c =
-    let l = g.S.Lent.bytes c.in_ok-literal.literal in
+    let l = g.S.InputStr.bytes c.in_ok-literal.literal in
     record { tree = num l; takes = peek_tree c.in_ok-kind.ensures.ok c.in_ok-kind.ensures.none c.in_ok-literal.ensures.ok; answer = ap (λ (s : List ℕ). gives (literal_datum s)) (sym (c.in_ok-raw-2.ensures.ok ∙ c.as_text.ensures)) }
 
 pub returns-in-Ok-clause-ok : goal.returns-in-Ok-clause-ok

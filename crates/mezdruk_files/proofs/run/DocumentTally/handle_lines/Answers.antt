@@ -9,14 +9,14 @@ use Rattle.mezdruk_files.proofs.run.DocumentTally.handle_lines.Goals as goal
 
 pub lines-init : goal.lines-init
 lines-init g c =
-    record { handled = Handles-none _ c.args.self.now _ _ (lines_none (task_of g.C.Change.changed c.args.job.now) c.args.whole.name.now c.args.whole.bytes.now); counted = omega arith }
+    record { handled = Handles-none _ c.args.self.now _ _ (lines_none (task_of g.C.ValueChange.changed c.args.job.now) c.args.whole.name.now c.args.whole.bytes.now); counted = omega arith }
 
 pub lines-preserved-then-is_blank : goal.lines-preserved-then-is_blank
 lines-preserved-then-is_blank g c =
     record {
       handled = Handles-then _ _ _ _ _ _ _ _ _ _ _ _ c.lines.invariant.handled
-          (handles_blank (task_of g.C.Change.changed c.args.job.now) (line_part c.args.whole.name.now c.lines.number c.split_line.result.0.now) c.lines.self _ _ c.if-is_blank.ensures)
-          (lines_more (task_of g.C.Change.changed c.args.job.now) c.args.whole.name.now c.args.whole.bytes.now c.lines.number c.lines.rest.now c.split_line.result.0.now c.split_line.result.1.now c.split_line.ensures.line);
+          (handles_blank (task_of g.C.ValueChange.changed c.args.job.now) (line_part c.args.whole.name.now c.lines.number c.split_line.result.0.now) c.lines.self _ _ c.if-is_blank.ensures)
+          (lines_more (task_of g.C.ValueChange.changed c.args.job.now) c.args.whole.name.now c.args.whole.bytes.now c.lines.number c.lines.rest.now c.split_line.result.0.now c.split_line.result.1.now c.split_line.ensures.line);
       counted = omega (arith, c.lines.invariant.counted, c.split_line.ensures.shorter);
     }
 
@@ -24,16 +24,16 @@ pub lines-preserved : goal.lines-preserved
 lines-preserved g c =
     record {
       handled = Handles-then _ _ _ _ _ _ _ _ _ _ _ _ c.lines.invariant.handled
-          (handles_full (task_of g.C.Change.changed c.args.job.now) (line_part c.args.whole.name.now c.lines.number c.split_line.result.0.now) c.lines.self c.handle_part.new.self _ _ _ _ c.if-is_blank.ensures c.in-Ok.ensures.ok)
-          (lines_more (task_of g.C.Change.changed c.args.job.now) c.args.whole.name.now c.args.whole.bytes.now c.lines.number c.lines.rest.now c.split_line.result.0.now c.split_line.result.1.now c.split_line.ensures.line);
+          (handles_full (task_of g.C.ValueChange.changed c.args.job.now) (line_part c.args.whole.name.now c.lines.number c.split_line.result.0.now) c.lines.self c.handle_part.new.self _ _ _ _ c.if-is_blank.ensures c.in-Ok.ensures.ok)
+          (lines_more (task_of g.C.ValueChange.changed c.args.job.now) c.args.whole.name.now c.args.whole.bytes.now c.lines.number c.lines.rest.now c.split_line.result.0.now c.split_line.result.1.now c.split_line.ensures.line);
       counted = omega (arith, c.lines.invariant.counted, c.split_line.ensures.shorter);
     }
 
 pub returns-in-Err-clause-err : goal.returns-in-Err-clause-err
 returns-in-Err-clause-err g c =
     StopsRunning-then _ _ _ _ _ _ _ _ _ _ _ _ c.in-Err.error c.lines.invariant.handled
-    (full_stops (task_of g.C.Change.changed c.args.job.now) (line_part c.args.whole.name.now c.lines.number c.split_line.result.0.now) c.lines.self c.handle_part.new.self _ _ _ _ c.in-Err.error c.if-is_blank.ensures c.in-Err.ensures.err)
-    (lines_stop (task_of g.C.Change.changed c.args.job.now) c.args.whole.name.now c.args.whole.bytes.now c.lines.number c.lines.rest.now c.split_line.result.0.now c.split_line.result.1.now c.split_line.ensures.line)
+    (full_stops (task_of g.C.ValueChange.changed c.args.job.now) (line_part c.args.whole.name.now c.lines.number c.split_line.result.0.now) c.lines.self c.handle_part.new.self _ _ _ _ c.in-Err.error c.if-is_blank.ensures c.in-Err.ensures.err)
+    (lines_stop (task_of g.C.ValueChange.changed c.args.job.now) c.args.whole.name.now c.args.whole.bytes.now c.lines.number c.lines.rest.now c.split_line.result.0.now c.split_line.result.1.now c.split_line.ensures.line)
 
 pub returns-in-Err-clause-reported : goal.returns-in-Err-clause-reported
 returns-in-Err-clause-reported g c = reported_then (g.K.Sink.state c.args.sink.now) (g.K.Sink.state c.lines.sink) (g.K.Sink.state c.handle_part.new.sink) _ tt _ c.lines.invariant.handled.output c.in-Err.ensures.reported
@@ -41,4 +41,4 @@ returns-in-Err-clause-reported g c = reported_then (g.K.Sink.state c.args.sink.n
 pub returns-clause-ok : goal.returns-clause-ok
 returns-clause-ok g c =
     let empty : length c.lines.rest.now ≡ 0 = first_of (grind (arith, nat_tests), grind (arith, common_steps), search rules) in
-    Handles-as _ _ _ _ _ _ _ _ c.lines.invariant.handled (lines_all (task_of g.C.Change.changed c.args.job.now) c.args.whole.name.now c.args.whole.bytes.now c.lines.number c.lines.rest.now empty)
+    Handles-as _ _ _ _ _ _ _ _ c.lines.invariant.handled (lines_all (task_of g.C.ValueChange.changed c.args.job.now) c.args.whole.name.now c.args.whole.bytes.now c.lines.number c.lines.rest.now empty)

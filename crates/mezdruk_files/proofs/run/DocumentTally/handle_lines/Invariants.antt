@@ -7,7 +7,7 @@ use Rattle.mezdruk_files.proofs.run.DocumentTally.handle_lines.Given as goal
 abbrev pub invariant-lines : goal.invariant-lines
 invariant-lines g l =
     record {
-      handled : Handles (LinesLeft (task_of g.C.Change.changed l.job) l.whole.name.now l.whole.bytes.now l.number l.rest) l.fn.self l.self (g.K.Sink.state l.fn.sink) (g.K.Sink.state l.sink) (g.E.Sink.state l.fn.errs) (g.E.Sink.state l.errs);
+      handled : Handles (LinesLeft (task_of g.C.ValueChange.changed l.job) l.whole.name.now l.whole.bytes.now l.number l.rest) l.fn.self l.self (g.K.Sink.state l.fn.sink) (g.K.Sink.state l.sink) (g.E.Sink.state l.fn.errs) (g.E.Sink.state l.errs);
       counted : l.number + length l.rest ≤ length l.whole.bytes.now;
     }
 
