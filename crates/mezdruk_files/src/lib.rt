@@ -56,6 +56,6 @@ pub use job::{InputForm, Job};
 pub use measure::{GetKeys, GetLength};
 pub use overlay::MergeInTurn;
 pub use patches::{ApplyMerge, ApplyPatch};
-pub use report::file_report;
+pub use report::{file_report, input_report};
 pub use run::print_documents;
 pub use value_path::ValuePath;

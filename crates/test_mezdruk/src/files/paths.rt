@@ -13,7 +13,7 @@ fn path_of(alloc: Global, text: &str) -> Option<ValuePath> {
 }
 
 // Whether a change makes of lines what the rows say, and each element is printed.
-fn makes_each<C: ValueChange>(alloc: Global, change: C, rows: &[Row]) -> bool {
+fn makes_each<C: ValueChange + Drop>(alloc: Global, change: C, rows: &[Row]) -> bool {
     let mut job = compact(change);
     job.input = InputForm::Lines;
     job.each = true;
