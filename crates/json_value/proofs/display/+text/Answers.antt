@@ -37,7 +37,7 @@ display_elements-elements-preserved g t c =
           elim c.match-next.branch [
             | display_elements-in-Some+in_ok-write_str-2+in_ok-show w ↦
                 let comma = has_written_append _ _ _ _ _ _ so_far (w.in_ok-write_str-2.ensures.writes so_far.plain refl) in
-                rw w.f-is (has_written_of_eq _ _ _ _ _ (element_shown ts i w.separator.result.now (seen w.in-Some.element) w.separator.ensures (sym got.0 ∙ ap (option_map seen) w.in-Some.is)) (has_written_append _ _ _ _ _ _ comma (w.in_ok-show.ensures comma.plain refl)))
+                rw w.f-is (has_written_of_eq _ _ _ _ _ (element_shown ts i w.element_separator.result.now (seen w.in-Some.element) w.element_separator.ensures (sym got.0 ∙ ap (option_map seen) w.in-Some.is)) (has_written_append _ _ _ _ _ _ comma (w.in_ok-show.ensures comma.plain refl)))
             | display_elements-in_default w ↦ absurd (omega (arith, past_end ts i (sym got.0 ∙ ap (option_map seen) w.in_default.is)))
           ],
     )
@@ -57,7 +57,7 @@ display_members-members-preserved g t c =
           elim c.match-next.branch [
             | display_members-in-Some+in_ok-write+in_ok-show w ↦
                 let key = has_written_append _ _ _ _ _ _ so_far (w.in_ok-write.ensures.writes so_far.plain refl) in
-                rw w.f-is (has_written_of_eq _ _ _ _ _ (member_shown ps i w.separator.result.now w.in-Some.key.now (seen w.in-Some.value) w.separator.ensures (sym got.0 ∙ ap (option_map member_seen) w.in-Some.is)) (has_written_append _ _ _ _ _ _ key (w.in_ok-show.ensures key.plain refl)))
+                rw w.f-is (has_written_of_eq _ _ _ _ _ (member_shown ps i w.element_separator.result.now w.in-Some.key.now (seen w.in-Some.value) w.element_separator.ensures (sym got.0 ∙ ap (option_map member_seen) w.in-Some.is)) (has_written_append _ _ _ _ _ _ key (w.in_ok-show.ensures key.plain refl)))
             | display_members-in_default w ↦ absurd (omega (arith, past_end ps i (sym got.0 ∙ ap (option_map member_seen) w.in_default.is)))
           ],
     )
