@@ -114,7 +114,7 @@ trailing_fault p ts e g o s t =
     let b : get_or (input p) k 0 ≡ get_or p.text t.at 0 = get_or-drop p.start p.text k 0 ∙ ap (λ m. get_or p.text m 0) a in
     let h = subst (λ (c : List Kind). ReaderAt p.lossy p.limit (input p) k c done ts) c (spaced_to p ts t.at g o s t.next) in
     let f = misplaced_fault p.lossy p.limit (input p) k [] ts h (omega (arith, length-drop p.start p.text)) (λ w. t.next.stop t.some (subst IsWhitespace b w)) (λ n. absurd (n refl)) (λ m e. absurd (cc)) in
-    subst (λ (x : Error). FaultFrom p.lossy p.limit p.start p.text x.code x.place) (sym t.peeked) (k, ap (place_at p.text) (sym a), f)
+    subst (λ (x : Error). FaultFrom p.lossy p.limit p.start p.text x.code x.place) (sym t.reported) (k, ap (place_at p.text) (sym a), f)
   where
     none_open : (c : List Kind) → length c ≡ 0 → c ≡ []
     none_open [] l = refl

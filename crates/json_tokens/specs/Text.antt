@@ -115,7 +115,7 @@ text_tokens_state s = record {
 -- no token was peeked, taken or refused
 pub record IsFreshReader (s : TextTokensState) : Type 0 where
   pub none : HasGiven s.parser []
-  pub consumed : text_taken s []
+  pub taken : text_taken s []
   pub expected : (text_tokens_state s).expected ≡ initial_state
   pub ahead : s.ahead ≡ None
   pub failed : s.failed ≡ None
