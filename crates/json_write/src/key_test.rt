@@ -44,7 +44,7 @@ impl KeyTest {
     }
 
     fn begin(&mut self, kind: Kind) -> Result<()>
-        ensures { Tests testing.stand_given self.old self.new (given (begin kind)) result }
+        ensures { Tests testing.state_given self.old self.new (given (begin kind)) result }
     {
         if let Some(error) = self.failed {
             return Err(error);
@@ -59,7 +59,7 @@ impl KeyTest {
     }
 
     fn end(&mut self, kind: Kind) -> Result<()>
-        ensures { Tests testing.stand_given self.old self.new (given (end kind)) result }
+        ensures { Tests testing.state_given self.old self.new (given (end kind)) result }
     {
         if let Some(error) = self.failed {
             return Err(error);
@@ -74,7 +74,7 @@ impl Events for KeyTest {
 
     ghost state = { expected_in_test };
 
-    ghost after = { testing.stand_given };
+    ghost after = { testing.state_given };
 
     ghost token_state = { λ s. s };
 
