@@ -1,13 +1,13 @@
 -- A merge patch between values, as the calls make it.
-use Rattle.std.proofs.Common.{◌≡◌, ℕ, List, [], ◌∷◌, ◌++◌, append_assoc, Bool, true, false, cond, ◌&&◌, Option, Some, None, is_some, option_map, refl, sym, ap, ap₂, ◌∙◌, bytes_eq, map}
+use Rattle.std.proofs.Common.{◌≡◌, ℕ, List, [], ◌∷◌, ◌++◌, append_assoc, Bool, true, false, cond, ◌&&◌, Option, Some, None, is_some, option_map, refl, sym, ap, ap₂, ◌∙◌, append-nil, bytes_eq, map}
 use Rattle.std.specs.Prelude.{IfSome, IfNone}
 use Rattle.std.proofs.lemmas.List.{map-append}
 use Rattle.json_grammar.specs.Tree.{Tree, null, boolean, num, text, list, pairs, Pairs, no_pairs, list_pairs}
 use Rattle.json_model.specs.Edit.{has_key}
 use Rattle.json_model.specs.Same.{first_value, same}
 use Rattle.json_patch.specs.Laws.{HasNoRepeatedKeys}
-use Rattle.json_patch.specs.Merge.{members_or_none, merge_patched}
-use Rattle.json_diff.specs.MergeDiff.{removals, appended, merge_change, differing_patch, changes, is_object, merge_patch_between, HasNoNullMember}
+use Rattle.json_patch.specs.Merge.{members_or_none, is_null, merge_patched}
+use Rattle.json_diff.specs.MergeDiff.{has_unique_keys, is_same_as, removals, appended, merge_change, object_patch, differing_patch, changes, is_object, merge_patch_between, HasNoNullMember}
 use Rattle.json_diff.specs.MergeDiffViews.{members_in}
 use Rattle.json_value.specs.Denotes.{tree_of, pair_of}
 use Rattle.json_value.specs.declared.pair.Keyed.{Keyed}
@@ -74,6 +74,34 @@ changes_more xs ys c r h = appended_assoc xs c r ∙ ap (λ o. appended o r) h
 pub object_members : (o : Option ObjectView) (t : Tree) → option_map members_seen o ≡ object_pairs t → members_in o ≡ members_or_none t
 object_members None t e = members_of_none t e
 object_members (Some o) t e = members_of_seen t (members_seen o) e
+
+pub object_patch_is : (ps qs : Pairs) (cs o : Option Members) → (has_unique_keys ps && has_unique_keys qs) ≡ true → appended (Some (removals qs ps)) cs ≡ o → object_patch ps qs cs ≡ option_map (λ rs. pairs (list_pairs rs)) o
+object_patch_is ps qs cs o h e = ap (λ b. cond b (option_map (λ rs. pairs (list_pairs (removals qs ps ++ rs))) cs) None) h ∙ by cs ∙ ap (option_map (λ rs. pairs (list_pairs rs))) e
+  where
+    by : (cs : Option Members) → option_map (λ (rs : Members). pairs (list_pairs (removals qs ps ++ rs))) cs ≡ option_map (λ rs. pairs (list_pairs rs)) (appended (Some (removals qs ps)) cs)
+    by (Some rs) = refl
+    by None = refl
+
+pub object_patch_none : (ps qs : Pairs) (cs : Option Members) → (has_unique_keys ps && has_unique_keys qs) ≡ false → object_patch ps qs cs ≡ None
+object_patch_none ps qs cs h = ap (λ b. cond b (option_map (λ rs. pairs (list_pairs (removals qs ps ++ rs))) cs) None) h
+
+-- ---- one change
+
+pub change_same : (xs : Members) (k : List ℕ) (o : Option Tree) (v : Tree) (p : Option Tree) → is_same_as o v ≡ true → appended (Some xs) (merge_change k o v p) ≡ Some xs
+change_same xs k o v p h = ap (λ b. appended (Some xs) (cond b (Some []) (cond (is_null v) None (option_map (λ x. (k, x) ∷ []) p)))) h ∙ ap Some (append-nil xs)
+
+pub change_null : (xs : Members) (k : List ℕ) (o : Option Tree) (v : Tree) (p : Option Tree) → is_same_as o v ≡ false → is_null v ≡ true → appended (Some xs) (merge_change k o v p) ≡ None
+change_null xs k o v p h g = ap₂ (λ b c. appended (Some xs) (cond b (Some []) (cond c None (option_map (λ x. (k, x) ∷ []) p)))) h g
+
+pub change_made : (xs : Members) (k : List ℕ) (o : Option Tree) (v : Tree) (p : Option Tree) (x : Tree) → is_same_as o v ≡ false → is_null v ≡ false → p ≡ Some x → appended (Some xs) (merge_change k o v p) ≡ Some (xs ++ (k, x) ∷ [])
+change_made xs k o v p x h g e = ap₂ (λ b c. appended (Some xs) (cond b (Some []) (cond c None (option_map (λ x. (k, x) ∷ []) p)))) h g ∙ ap (λ q. appended (Some xs) (option_map (λ x. (k, x) ∷ []) q)) e
+
+pub change_missing : (xs : Members) (k : List ℕ) (o : Option Tree) (v : Tree) (p : Option Tree) → is_same_as o v ≡ false → is_null v ≡ false → p ≡ None → appended (Some xs) (merge_change k o v p) ≡ None
+change_missing xs k o v p h g e = ap₂ (λ b c. appended (Some xs) (cond b (Some []) (cond c None (option_map (λ x. (k, x) ∷ []) p)))) h g ∙ ap (λ q. appended (Some xs) (option_map (λ x. (k, x) ∷ []) q)) e
+
+pub ruleset one_change = (change_same, change_null, change_made, change_missing)
+
+pub ruleset of_object = (object_patch_is, object_patch_none)
 
 -- ---- members that are pushed
 
