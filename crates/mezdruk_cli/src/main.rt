@@ -7,7 +7,6 @@
 #![tactic(auto)]
 
 mod changes;
-mod compare;
 mod files;
 mod in_place;
 mod missing;
