@@ -6,7 +6,7 @@ use Rattle.json_grammar.specs.Tree.{list, no_trees, tree_and}
 use Rattle.json_data.specs.Reading.{gives, gives_all, as_list}
 use Rattle.json_data.proofs.Lists.{opens, peeks_on, one_more, closes, join, more-gives, stopped}
 use Rattle.json_data.proofs.Exits.{stop_in}
-use Rattle.json_tokens.proofs.Steps.{peek_tree, peek_kind}
+use Rattle.json_tokens.proofs.Steps.{peek_tree}
 use Rattle.json_tokens.proofs.KindTests.{is_kind-ne}
 use Rattle.json_model.specs.Datum.{Datum, list_datum, list_data}
 use Rattle.test_samples.specs.declared.nested.Nested.{Nested, fold-roll-Nested}
@@ -14,7 +14,7 @@ use Rattle.test_samples.specs.declared.nested.Nested.TheOpen.{Nested-F}
 use Rattle.test_samples.specs.declared.nested.Nested.TheVariants.{rolls-List}
 use Rattle.test_samples.specs.declared.nested.Nested.TheVariants as nested
 use Rattle.test_samples.specs.Nested.{nested_step, nested_datum, read_nested}
-use Rattle.test_samples.proofs.Elements.{each-read, no_list-kind, plain-read}
+use Rattle.test_samples.proofs.Elements.{each-read}
 use Rattle.test_samples.proofs.nested.NestedDeserializeFrom.+deserialize.Goals as goal
 
 pub loop-all-init : goal.loop-all-init
