@@ -13,7 +13,7 @@ pub record DocumentPart : Type 0 where
   pub before : ℕ
   pub scope : Scope
 
-abbrev pub part_view : code.Part → DocumentPart
+abbrev pub part_view : code.DocumentPart → DocumentPart
 part_view p = record { name = p.name.now; bytes = p.bytes.now; before = p.before; scope = p.scope }
 
 -- a whole document
