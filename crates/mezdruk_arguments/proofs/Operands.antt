@@ -30,6 +30,7 @@ example_formed kind.Step = (text [], record { text = empty_text; form = refl })
 example_formed kind.Edits = (list no_trees, record { text = empty_list; form = refl })
 example_formed kind.Path = (list no_trees, record { text = empty_list; form = refl })
 example_formed kind.Text = (text (91 ∷ 93 ∷ []), record { text = refl; form = refl })
+example_formed kind.File = (text (91 ∷ 93 ∷ []), record { text = refl; form = refl })
 example_formed kind.Value = (list no_trees, record { text = empty_list; form = refl })
 example_formed kind.Patch = (list no_trees, record { text = empty_list; form = refl })
 
@@ -40,6 +41,7 @@ example_is_operand v ended kind.Edits missing e = rw e refl
 example_is_operand v ended kind.Path missing e = rw e refl
 example_is_operand v ended kind.Text missing e = rw e refl
 example_is_operand v ended kind.Value missing e = rw e refl
+example_is_operand v ended kind.File missing e = rw e refl
 example_is_operand v ended kind.Patch missing e = rw e refl
 
 -- ---- a word spells one tree

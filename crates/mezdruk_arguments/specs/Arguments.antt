@@ -22,17 +22,23 @@ verb_in w =
     cond (bytes_eq w (codes "fmt")) (Some verb.Fmt)
     (cond (bytes_eq w (codes "check")) (Some verb.Check)
     (cond (bytes_eq w (codes "get")) (Some verb.Get)
+    (cond (bytes_eq w (codes "keys")) (Some verb.Keys)
+    (cond (bytes_eq w (codes "length")) (Some verb.Length)
     (cond (bytes_eq w (codes "edit")) (Some verb.Edit)
     (cond (bytes_eq w (codes "set")) (Some verb.Set)
     (cond (bytes_eq w (codes "insert")) (Some verb.Insert)
     (cond (bytes_eq w (codes "push")) (Some verb.Push)
     (cond (bytes_eq w (codes "remove")) (Some verb.Remove)
     (cond (bytes_eq w (codes "patch")) (Some verb.Patch)
-    (cond (bytes_eq w (codes "merge")) (Some verb.Merge) None)))))))))
+    (cond (bytes_eq w (codes "merge")) (Some verb.Merge)
+    (cond (bytes_eq w (codes "diff")) (Some verb.Diff)
+    (cond (bytes_eq w (codes "overlay")) (Some verb.Overlay) None)))))))))))))
 
 -- the operands of a command, which precede its files
 abbrev pub operands_of : Verb → List OperandKind
 operands_of verb.Get = kind.Path ∷ []
+operands_of verb.Keys = kind.Path ∷ []
+operands_of verb.Length = kind.Path ∷ []
 operands_of verb.Edit = kind.Edits ∷ []
 operands_of verb.Set = kind.Path ∷ kind.Value ∷ []
 operands_of verb.Push = kind.Path ∷ kind.Value ∷ []
@@ -40,6 +46,7 @@ operands_of verb.Insert = kind.Path ∷ kind.Key ∷ kind.Value ∷ []
 operands_of verb.Remove = kind.Path ∷ kind.Step ∷ []
 operands_of verb.Patch = kind.Patch ∷ []
 operands_of verb.Merge = kind.Patch ∷ []
+operands_of verb.Diff = kind.File ∷ []
 operands_of _ = []
 
 -- the layout that a word asks for
@@ -60,9 +67,11 @@ setting_in w =
     (cond (bytes_eq w (codes "--unique-keys")) (Some setting.UniqueKeys)
     (cond (bytes_eq w (codes "--raw") || bytes_eq w (codes "-r")) (Some setting.Raw)
     (cond (bytes_eq w (codes "--string")) (Some setting.StringValue)
+    (cond (bytes_eq w (codes "--merge")) (Some setting.MergePatch)
+    (cond (bytes_eq w (codes "--verbose") || bytes_eq w (codes "-v")) (Some setting.Verbose)
     (cond (bytes_eq w (codes "-i") || bytes_eq w (codes "--in-place")) (Some setting.InPlace)
     (cond (bytes_eq w (codes "--lines")) (Some (setting.Input Lines))
-    (cond (bytes_eq w (codes "--stream")) (Some (setting.Input Stream)) (setting_with_value w)))))))
+    (cond (bytes_eq w (codes "--stream")) (Some (setting.Input Stream)) (setting_with_value w)))))))))
 
 -- the options that each command has
 abbrev pub takes : Verb → Setting → Bool
@@ -70,7 +79,20 @@ takes verb.Check (setting.Layout l) = false
 takes verb.Check setting.SortKeys = false
 takes verb.Check setting.InPlace = false
 takes verb.Get setting.InPlace = false
+takes verb.Keys setting.InPlace = false
+takes verb.Length setting.InPlace = false
+takes verb.Diff setting.InPlace = false
+takes verb.Check setting.Verbose = false
+takes verb.Get setting.Verbose = false
+takes verb.Keys setting.Verbose = false
+takes verb.Length setting.Verbose = false
+takes verb.Diff setting.Verbose = false
+takes verb.Diff (setting.Input f) = false
+takes verb.Overlay (setting.Input f) = false
+takes verb.Diff setting.MergePatch = true
+takes _ setting.MergePatch = false
 takes verb.Get setting.Raw = true
+takes verb.Keys setting.Raw = true
 takes _ setting.Raw = false
 takes verb.Set setting.StringValue = true
 takes verb.Insert setting.StringValue = true
@@ -78,9 +100,13 @@ takes verb.Push setting.StringValue = true
 takes _ setting.StringValue = false
 takes _ _ = true
 
--- the text after a name and the first equals sign, which is not empty
+-- the text after the first equals sign
+abbrev pub option_value : List ℕ → List ℕ
+option_value w = after_first (λ x. x == 61) w
+
+-- the same after this name, if it is not empty
 abbrev pub file_in : List ℕ → List ℕ → Option (List ℕ)
-file_in name w = cond (bytes_eq (before_first (λ x. x == 61) w) name && not (length (after_first (λ x. x == 61) w) == 0)) (Some (after_first (λ x. x == 61) w)) None
+file_in name w = cond (bytes_eq (before_first (λ x. x == 61) w) name && not (length (option_value w) == 0)) (Some (option_value w)) None
 
 -- the file that an option names for the operand of a command
 abbrev pub source_in : Verb → List ℕ → Option (List ℕ)
@@ -88,6 +114,11 @@ source_in verb.Edit w = file_in (codes "--edits") w
 source_in verb.Patch w = file_in (codes "--patch") w
 source_in verb.Merge w = file_in (codes "--merge") w
 source_in _ w = None
+
+-- one more path, which an option of `get` names
+abbrev pub path_in_option : Verb → List ℕ → Option (List ℕ)
+path_in_option verb.Get w = file_in (codes "--path") w
+path_in_option _ w = None
 
 -- a word is an option: it begins with a hyphen, and no digit follows, as in a number
 abbrev pub is_option_argument : List ℕ → Bool
@@ -100,7 +131,7 @@ is_standard_input w = bytes_eq w (codes "-")
 
 -- no option
 abbrev pub no_settings : Settings
-no_settings = record { layout = None; sorted = false; unique = false; depth = None; raw = false; string_value = false; in_place = false; input = None }
+no_settings = record { layout = None; sorted = false; unique = false; depth = None; raw = false; string_value = false; merge_patch = false; verbose = false; in_place = false; input = None }
 
 -- the settings with one more, unless there is one of its kind
 abbrev pub with_setting : Settings → Setting → Option Settings
@@ -110,6 +141,8 @@ with_setting s setting.UniqueKeys = cond s.unique None (Some (record s { unique 
 with_setting s (setting.Depth n) = cond (is_some s.depth) None (Some (record s { depth = Some n }))
 with_setting s setting.Raw = cond s.raw None (Some (record s { raw = true }))
 with_setting s setting.StringValue = cond s.string_value None (Some (record s { string_value = true }))
+with_setting s setting.MergePatch = cond s.merge_patch None (Some (record s { merge_patch = true }))
+with_setting s setting.Verbose = cond s.verbose None (Some (record s { verbose = true }))
 with_setting s setting.InPlace = cond s.in_place None (Some (record s { in_place = true }))
 with_setting s (setting.Input f) = cond (is_some s.input) None (Some (record s { input = Some f }))
 

@@ -4,6 +4,7 @@ use Rattle.std.specs.Prelude.{◌≡◌, ℕ, ⊤, Bool, true, false, not, cond,
 use Rattle.std.specs.List.{list_any}
 use Rattle.mezdruk_arguments.specs.declared.verb.Verb.{Verb}
 use Rattle.mezdruk_arguments.specs.declared.operand.OperandKind.{OperandKind}
+use Rattle.mezdruk_arguments.specs.declared.operand.OperandKind.TheVariants as kind
 use Rattle.mezdruk_arguments.specs.declared.setting.Setting.{Setting}
 use Rattle.mezdruk_arguments.specs.declared.setting.Setting.TheVariants.{InPlace, StringValue}
 use Rattle.mezdruk_arguments.specs.declared.setting.Setting.TheVariants as setting
@@ -11,7 +12,7 @@ use Rattle.mezdruk_arguments.specs.declared.setting.RequestedLayout.TheVariants.
 use Rattle.mezdruk_arguments.specs.declared.setting.Settings.{Settings}
 use Rattle.mezdruk_arguments.specs.declared.line.ArgumentRole.{ArgumentRole}
 use Rattle.mezdruk_arguments.specs.declared.line.ArgumentRole.TheVariants as role
-use Rattle.mezdruk_arguments.specs.Arguments.{verb_in, setting_in, takes, source_in, operands_of, kind_read, is_option_argument, is_standard_input, no_settings, with_setting, rules_of_stream}
+use Rattle.mezdruk_arguments.specs.Arguments.{verb_in, setting_in, takes, source_in, path_in_option, option_value, operands_of, kind_read, is_option_argument, is_standard_input, no_settings, with_setting, rules_of_stream}
 use Rattle.mezdruk_arguments.specs.Operands.{IsOperand}
 use Rattle.json_command.specs.Options.{width_in}
 
@@ -59,7 +60,7 @@ is_width_name v w = bytes_eq w (codes "--indent") && takes v (setting.Layout Com
 
 -- an option of a command
 abbrev pub option_role : Verb → List ℕ → ArgumentRole
-option_role v w = cond (is_some (source_in v w)) role.Source (cond (is_width_name v w) role.WidthName (elim (setting_in w) [ Some x ↦ cond (takes v x) (role.Setting x) role.Unknown | None ↦ role.Unknown ]))
+option_role v w = cond (is_some (source_in v w)) role.Source (cond (is_some (path_in_option v w)) role.Path (cond (is_width_name v w) role.WidthName (elim (setting_in w) [ Some x ↦ cond (takes v x) (role.Setting x) role.Unknown | None ↦ role.Unknown ])))
 
 -- an operand as long as one is missing, and then a file
 abbrev pub operand_role : Option OperandKind → ArgumentRole
@@ -105,6 +106,7 @@ allows s w _ = true
 -- an operand has its form
 abbrev pub FormsOperand : List ℕ → ArgumentRole → Type 0
 FormsOperand w (role.Operand kind) = IsOperand kind w
+FormsOperand w role.Path = IsOperand kind.Path (option_value w)
 FormsOperand w _ = ⊤
 
 pub record MayTake (s : ParsedArguments) (w : List ℕ) (r : ArgumentRole) : Type 0 where
@@ -124,6 +126,7 @@ add_argument s w role.WidthName = record s { awaits_width = true }
 add_argument s w role.Width = record s { awaits_width = false; settings = record s.settings { layout = option_map Spaces (width_in w) } }
 add_argument s w role.Source = record s { source = source_named s w }
 add_argument s w (role.Operand kind) = record s { operands = s.operands ++ (kind, w) ∷ [] }
+add_argument s w role.Path = record s { operands = s.operands ++ (kind.Path, option_value w) ∷ [] }
 add_argument s w role.File = record s { files = s.files ++ w ∷ [] }
 add_argument s w role.Unknown = s
 

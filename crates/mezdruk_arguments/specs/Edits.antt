@@ -13,6 +13,8 @@ abbrev pub verb_name : Verb → List ℕ
 verb_name verb.Fmt = codes "fmt"
 verb_name verb.Check = codes "check"
 verb_name verb.Get = codes "get"
+verb_name verb.Keys = codes "keys"
+verb_name verb.Length = codes "length"
 verb_name verb.Edit = codes "edit"
 verb_name verb.Set = codes "set"
 verb_name verb.Insert = codes "insert"
@@ -20,6 +22,8 @@ verb_name verb.Push = codes "push"
 verb_name verb.Remove = codes "remove"
 verb_name verb.Patch = codes "patch"
 verb_name verb.Merge = codes "merge"
+verb_name verb.Diff = codes "diff"
+verb_name verb.Overlay = codes "overlay"
 
 -- the tree of one edit: its name and its operands
 abbrev pub edit_tree : Verb → List Tree → Tree

@@ -23,10 +23,11 @@ begins_as_pointer w = length w == 0 || bytes_eq (take 1 w) (codes "/")
 
 -- ---- words
 
--- the operand is the word as it is: a pointer, or a string that is asked for
+-- the operand is the word as it is: a pointer, a string that is asked for, or a file
 abbrev pub taken_verbatim : OperandKind → List ℕ → Bool
 taken_verbatim kind.Path w = begins_as_pointer w
 taken_verbatim kind.Text w = true
+taken_verbatim kind.File w = true
 taken_verbatim _ w = false
 
 -- the tree of a word: a string of the word as it is, or that of a JSON text (RFC 8259, section 2)

@@ -38,6 +38,8 @@ impl Verb {
             Verb::Fmt => FMT,
             Verb::Check => CHECK,
             Verb::Get => GET,
+            Verb::Keys => KEYS,
+            Verb::Length => LENGTH,
             Verb::Edit => EDIT,
             Verb::Set => SET,
             Verb::Insert => INSERT,
@@ -45,6 +47,8 @@ impl Verb {
             Verb::Remove => REMOVE,
             Verb::Patch => PATCH,
             Verb::Merge => MERGE,
+            Verb::Diff => DIFF,
+            Verb::Overlay => OVERLAY,
         }
     }
 }
@@ -57,7 +61,7 @@ Lays documents out, by two spaces if no option asks for another layout.
 
 Layouts: -c, --compact; --pretty; --indent=N; --tabs; beside one -S, --sort-keys
 Input:   --unique-keys, --depth=N, --lines, --stream
-Output:  -i, --in-place writes each FILE in place
+Output:  -i, --in-place writes each FILE in place; -v, --verbose says how many
 
   mezdruk fmt --indent=4 -i package.json
 `mezdruk --help` says more of each option.
@@ -77,16 +81,51 @@ Input:   --unique-keys, --depth=N, --lines, --stream
 
 /// The help of `get`.
 const GET: &str = "\
-mezdruk get [OPTION..] PATH [FILE..]
+mezdruk get [OPTION..] PATH [--path=PATH..] [FILE..]
 
 Prints the value at PATH: a JSON Pointer, as /tags/0, or a JSON array of steps,
 as '[\"tags\", 0]'. The empty pointer is the whole document.
 
+Paths:   --path=PATH asks for one more value, as often as it is given. Each
+         value is printed on a line, in the order of the paths, or none if one
+         of them is not there
 Layouts: -c, --compact; --pretty; --indent=N; --tabs; beside one -S, --sort-keys
 Input:   --unique-keys, --depth=N, --lines, --stream
 Output:  -r, --raw prints a string's content
 
   mezdruk get --raw /version package.json
+  mezdruk get /name --path=/version package.json
+`mezdruk --help` says more of each option.
+";
+
+/// The help of `keys`.
+const KEYS: &str = "\
+mezdruk keys [OPTION..] PATH [FILE..]
+
+Prints the keys of the object at PATH, one a line, in the order of its members:
+a JSON Pointer, as /scripts, or a JSON array of steps. The empty pointer is the
+whole document.
+
+Layouts: -c, --compact; --pretty; --indent=N; --tabs; beside one -S, --sort-keys
+Input:   --unique-keys, --depth=N, --lines, --stream
+Output:  -r, --raw prints a key's content
+
+  mezdruk keys --raw /scripts package.json
+`mezdruk --help` says more of each option.
+";
+
+/// The help of `length`.
+const LENGTH: &str = "\
+mezdruk length [OPTION..] PATH [FILE..]
+
+Prints the number of elements of the array at PATH, or of members of the object
+there: a JSON Pointer, as /tags, or a JSON array of steps. The empty pointer is
+the whole document.
+
+Layouts: -c, --compact; --pretty; --indent=N; --tabs; beside one -S, --sort-keys
+Input:   --unique-keys, --depth=N, --lines, --stream
+
+  mezdruk length /tags package.json
 `mezdruk --help` says more of each option.
 ";
 
@@ -102,7 +141,7 @@ Applies a JSON array of edits in turn: [\"set\", path, value],
 Layouts: -c, --compact; --pretty; --indent=N; --tabs; beside one -S, --sort-keys
 Input:   --unique-keys, --depth=N, --lines, --stream
 Output:  -i, --in-place writes each FILE in place, in the layout that it has
-         if no option asks for one
+         if no option asks for one; -v, --verbose says how many
 
   mezdruk edit '[[\"set\", [\"version\"], \"1.3.0\"]]' package.json
 `mezdruk --help` says more of each option.
@@ -120,7 +159,7 @@ Value:   --string, before VALUE, takes it as a string: --string Ada
 Layouts: -c, --compact; --pretty; --indent=N; --tabs; beside one -S, --sort-keys
 Input:   --unique-keys, --depth=N, --lines, --stream
 Output:  -i, --in-place writes each FILE in place, in the layout that it has
-         if no option asks for one
+         if no option asks for one; -v, --verbose says how many
 
   mezdruk set -i /version --string 1.3.0 package.json
 `mezdruk --help` says more of each option.
@@ -138,7 +177,7 @@ Value:   --string, before VALUE, takes it as a string: --string Ada
 Layouts: -c, --compact; --pretty; --indent=N; --tabs; beside one -S, --sort-keys
 Input:   --unique-keys, --depth=N, --lines, --stream
 Output:  -i, --in-place writes each FILE in place, in the layout that it has
-         if no option asks for one
+         if no option asks for one; -v, --verbose says how many
 
   mezdruk insert '' '\"license\"' --string MIT package.json
 `mezdruk --help` says more of each option.
@@ -155,7 +194,7 @@ Value:   --string, before VALUE, takes it as a string: --string Ada
 Layouts: -c, --compact; --pretty; --indent=N; --tabs; beside one -S, --sort-keys
 Input:   --unique-keys, --depth=N, --lines, --stream
 Output:  -i, --in-place writes each FILE in place, in the layout that it has
-         if no option asks for one
+         if no option asks for one; -v, --verbose says how many
 
   mezdruk push /tags --string new package.json
 `mezdruk --help` says more of each option.
@@ -172,7 +211,7 @@ array of steps; STEP is a JSON string or an index from 0.
 Layouts: -c, --compact; --pretty; --indent=N; --tabs; beside one -S, --sort-keys
 Input:   --unique-keys, --depth=N, --lines, --stream
 Output:  -i, --in-place writes each FILE in place, in the layout that it has
-         if no option asks for one
+         if no option asks for one; -v, --verbose says how many
 
   mezdruk remove /tags 0 package.json
 `mezdruk --help` says more of each option.
@@ -188,7 +227,7 @@ Applies a JSON Patch (RFC 6902), all operations or none.
 Layouts: -c, --compact; --pretty; --indent=N; --tabs; beside one -S, --sort-keys
 Input:   --unique-keys, --depth=N, --lines, --stream
 Output:  -i, --in-place writes each FILE in place, in the layout that it has
-         if no option asks for one
+         if no option asks for one; -v, --verbose says how many
 
   mezdruk patch '[{\"op\": \"remove\", \"path\": \"/tags/0\"}]' package.json
 `mezdruk --help` says more of each option.
@@ -205,8 +244,44 @@ keys, and null takes one out.
 Layouts: -c, --compact; --pretty; --indent=N; --tabs; beside one -S, --sort-keys
 Input:   --unique-keys, --depth=N, --lines, --stream
 Output:  -i, --in-place writes each FILE in place, in the layout that it has
-         if no option asks for one
+         if no option asks for one; -v, --verbose says how many
 
   mezdruk merge '{\"private\": true}' package.json
+`mezdruk --help` says more of each option.
+";
+
+/// The help of `diff`.
+const DIFF: &str = "\
+mezdruk diff [OPTION..] OLD [NEW..]
+
+Prints the JSON Patch (RFC 6902) that leads from the document of the file OLD to
+that of NEW, or to standard input if there is none; `-` is standard input. The
+status is 0 if both are the same value, 1 if they differ, and 2 if one of them
+is no document.
+
+Patches: --merge prints a JSON Merge Patch (RFC 7396); there is none if a key
+         repeats or a member of NEW is null: the status is 3
+Layouts: -c, --compact; --pretty; --indent=N; --tabs; beside one -S, --sort-keys
+Input:   --unique-keys, --depth=N
+
+  mezdruk diff old.json new.json
+  mezdruk patch --patch=changes.json old.json
+`mezdruk --help` says more of each option.
+";
+
+/// The help of `overlay`.
+const OVERLAY: &str = "\
+mezdruk overlay [OPTION..] [FILE..]
+
+Merges the documents of the files after the first into that of the first, one
+after another, each as a JSON Merge Patch (RFC 7396): its members replace those
+of the same keys, and null takes one out. `-` is standard input.
+
+Layouts: -c, --compact; --pretty; --indent=N; --tabs; beside one -S, --sort-keys
+Input:   --unique-keys, --depth=N
+Output:  -i, --in-place writes the first FILE in place, in the layout that it
+         has if no option asks for one
+
+  mezdruk overlay --pretty defaults.json site.json local.json
 `mezdruk --help` says more of each option.
 ";

@@ -1,7 +1,7 @@
 // The arguments that were read so far.
 ghost use Rattle.std.specs.Prelude.{◌≡◌, ◌⊎◌, ℕ, List, [], ◌∷◌, ◌++◌, if◌then◌else◌, true, false, OnOk, OnErr, IfOk, IfErr};
 ghost use Rattle.std.specs.List.{list_any};
-ghost use Rattle.mezdruk_arguments.specs.Arguments.{is_option_argument as option_word, is_standard_input, source_in};
+ghost use Rattle.mezdruk_arguments.specs.Arguments.{is_option_argument as option_word, is_standard_input, source_in, option_value as value_of_option};
 ghost use Rattle.mezdruk_arguments.specs.CommandLine.{ParsedArguments, nothing_asked, next_operand, missing_operand, is_width_name as names_width, comes_late, command_role as command_or_unknown, option_role as option_or_unknown, role_in, in_place_and_input, has_no_operands as no_operands, MayTake, MayFollow, with_argument, is_complete};
 ghost use Rattle.mezdruk_arguments.specs.Line.{HoldsAsked, TakesArgument};
 ghost use Rattle.mezdruk_arguments.specs.Asks.{Finishes};
@@ -33,6 +33,8 @@ pub(crate) enum ArgumentRole {
     Source,
     /// An operand.
     Operand(OperandKind),
+    /// An option that names one more path.
+    Path,
     /// A file.
     File,
     /// Not a command, or not an option of the command.
@@ -93,12 +95,25 @@ fn is_width_name(verb: Verb, word: &str) -> bool
     word == "--indent" && verb.takes(Setting::Layout(RequestedLayout::Compact))
 }
 
+// Returns the text after the first equals sign; nothing if there is none.
+fn option_value(word: &str) -> &str
+    ensures { result.now ≡ value_of_option word.now }
+{
+    match word.split_once('=') {
+        Some((_, value)) => value,
+        None => "",
+    }
+}
+
 // What an option is for a command.
 fn option_role(verb: Verb, word: &str) -> ArgumentRole
     ensures { result ≡ option_or_unknown verb word.now }
 {
     if verb.source_file(word).is_some() {
         return ArgumentRole::Source;
+    }
+    if verb.named_path(word).is_some() {
+        return ArgumentRole::Path;
     }
     if is_width_name(verb, word) {
         return ArgumentRole::WidthName;
@@ -295,6 +310,16 @@ impl<'a> ArgumentLine<'a> {
         }
     }
 
+    // Adds the path that an option names.
+    fn take_path(&mut self, alloc: Global, word: &str) -> Result<(), OperandError>
+        ensures ok { OnOk result ((s : ParsedArguments) → HoldsAsked self.old s
+            → TakesArgument self.new s word.now ArgumentRole.Path) }
+        ensures err { IfErr result (λ r. (r ≡ OperandError.OutOfMemory)
+            ⊎ ((s : ParsedArguments) → HoldsAsked self.old s → ¬ (MayTake s word.now ArgumentRole.Path))) }
+    {
+        self.take_operand(alloc, OperandKind::Path, option_value(word))
+    }
+
     // Adds a file.
     fn take_file(&mut self, word: &'a str) -> Result<(), OperandError>
         ensures ok { OnOk result ((s : ParsedArguments) → HoldsAsked self.old s
@@ -333,6 +358,7 @@ impl<'a> ArgumentLine<'a> {
             ArgumentRole::Width => self.take_width(word),
             ArgumentRole::Source => self.take_source(word),
             ArgumentRole::Operand(kind) => self.take_operand(alloc, kind, word),
+            ArgumentRole::Path => self.take_path(alloc, word),
             ArgumentRole::File => self.take_file(word),
             ArgumentRole::Unknown => Err(OperandError::Invalid(Problem::Unknown)),
         }

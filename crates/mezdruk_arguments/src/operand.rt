@@ -45,6 +45,8 @@ pub enum OperandKind {
     Step,
     /// A JSON Patch (RFC 6902) or a JSON Merge Patch (RFC 7396).
     Patch,
+    /// The name of the file with which others are compared.
+    File,
 }
 
 impl OperandKind {
@@ -57,6 +59,7 @@ impl OperandKind {
             OperandKind::Value | OperandKind::Text => "VALUE",
             OperandKind::Step => "STEP",
             OperandKind::Patch => "PATCH",
+            OperandKind::File => "OLD",
         }
     }
 }
@@ -107,7 +110,7 @@ fn is_verbatim(kind: OperandKind, word: &str) -> bool
 {
     match kind {
         OperandKind::Path => word.is_empty() || word.as_bytes().starts_with(b"/"),
-        OperandKind::Text => true,
+        OperandKind::Text | OperandKind::File => true,
         _ => false,
     }
 }
@@ -162,7 +165,7 @@ fn has_form(
     ensures only { IfErr result (λ r. r ≡ OperandError.OutOfMemory) }
 {
     match kind {
-        OperandKind::Value | OperandKind::Text | OperandKind::Patch => Ok(true),
+        OperandKind::Value | OperandKind::Text | OperandKind::Patch | OperandKind::File => Ok(true),
         OperandKind::Key => Ok(value.view().text().is_some()),
         OperandKind::Step => Ok(is_step(value.view())),
         OperandKind::Path => is_path_form(alloc, word, value),
@@ -171,9 +174,9 @@ fn has_form(
 }
 
 /// Reads an operand of this kind from the argument `word`, and returns its value. If the kind is
-/// `Text`, or if it is `Path` and `word` is empty or begins with `/`, the value is the string
-/// `word` itself. Else `word` is read as a JSON text by the usual rules (at most 254 levels, keys
-/// may repeat).
+/// `Text` or `File`, or if it is `Path` and `word` is empty or begins with `/`, the value is the
+/// string `word` itself. Else `word` is read as a JSON text by the usual rules (at most 254 levels,
+/// keys may repeat).
 ///
 /// Fails with [`Problem::NoText`] if it is not a JSON text, with [`Problem::WrongForm`] if the
 /// value does not have the form of the operand or the path is no JSON Pointer, and with

@@ -8,12 +8,13 @@ use std::alloc::{AllocError, Global};
 use strsim::levenshtein;
 
 /// The commands.
-const COMMANDS: [&str; 10] = [
-    "fmt", "check", "get", "edit", "set", "insert", "push", "remove", "patch", "merge",
+const COMMANDS: [&str; 14] = [
+    "fmt", "check", "get", "keys", "length", "edit", "set", "insert", "push", "remove", "patch",
+    "merge", "diff", "overlay",
 ];
 
 /// The options.
-const OPTIONS: [&str; 15] = [
+const OPTIONS: [&str; 17] = [
     "--compact",
     "--pretty",
     "--indent=",
@@ -24,6 +25,8 @@ const OPTIONS: [&str; 15] = [
     "--raw",
     "--string",
     "--in-place",
+    "--verbose",
+    "--path=",
     "--lines",
     "--stream",
     "--edits=",
@@ -54,6 +57,10 @@ fn meant(word: &str) -> Option<&'static str> {
         "add" | "append" => Some("push"),
         "update" | "replace" => Some("set"),
         "find" | "query" | "show" => Some("get"),
+        "count" | "len" | "size" => Some("length"),
+        "ls" | "names" | "members" => Some("keys"),
+        "compare" | "cmp" => Some("diff"),
+        "layer" | "combine" => Some("overlay"),
         _ => None,
     }
 }
@@ -84,17 +91,18 @@ fn value_wanted(name: &str) -> Option<&'static str> {
         "--indent" => Some("takes a number from 0 to 8"),
         "--depth" => Some("takes a number from 0 to 1024 without leading zeros"),
         "--edits" | "--patch" | "--merge" => Some("takes the name of a file"),
+        "--path" => Some("takes a JSON Pointer, as --path=/tags/0, or a JSON array of steps"),
         _ => None,
     }
 }
 
 // Whether some command has the option.
 fn is_option_of_another(word: &str) -> bool {
-    if word == "--indent" || Setting::of_word(word).is_some() {
+    if word == "--indent" || word != "--merge" && Setting::of_word(word).is_some() {
         return true;
     }
     match word.split_once('=') {
-        Some(("--edits" | "--patch" | "--merge", file)) => !file.is_empty(),
+        Some(("--edits" | "--patch" | "--merge" | "--path", value)) => !value.is_empty(),
         _ => false,
     }
 }
@@ -199,6 +207,7 @@ fn form_wanted(kind: OperandKind) -> &'static str {
         OperandKind::Key => "is no string",
         OperandKind::Step => "is no string and no index",
         OperandKind::Value | OperandKind::Text | OperandKind::Patch => "is no value",
+        OperandKind::File => "is no file",
     }
 }
 

@@ -58,6 +58,10 @@ pub enum Setting {
     Raw,
     /// An operand `VALUE` that is a string with the argument as its content (`--string`).
     StringValue,
+    /// A merge patch printed in place of a patch.
+    MergePatch,
+    /// A report of how many files were changed.
+    Verbose,
     /// Files changed in place (`--in-place`).
     InPlace,
     /// Input that contains several documents (`--lines` or `--stream`).
@@ -94,6 +98,10 @@ pub struct Settings {
     /// Whether the operand `VALUE` is a string with the argument as its content, and not a JSON
     /// text.
     pub string_value: bool,
+    /// Whether a merge patch is printed in place of a patch.
+    pub merge_patch: bool,
+    /// Whether it is reported how many files were changed.
+    pub verbose: bool,
     /// Whether files are changed in place.
     pub in_place: bool,
     /// How each input contains several documents; `None` if it is one document.
@@ -153,6 +161,8 @@ impl Setting {
             "--unique-keys" => Some(Setting::UniqueKeys),
             "--raw" | "-r" => Some(Setting::Raw),
             "--string" => Some(Setting::StringValue),
+            "--merge" => Some(Setting::MergePatch),
+            "--verbose" | "-v" => Some(Setting::Verbose),
             "-i" | "--in-place" => Some(Setting::InPlace),
             "--lines" => Some(Setting::Input(RequestedInput::Lines)),
             "--stream" => Some(Setting::Input(RequestedInput::Stream)),
@@ -173,6 +183,8 @@ impl Settings {
             depth: None,
             raw: false,
             string_value: false,
+            merge_patch: false,
+            verbose: false,
             in_place: false,
             input: None,
         }
@@ -202,6 +214,14 @@ impl Settings {
             Setting::Raw if !self.raw => Some(Settings { raw: true, ..self }),
             Setting::StringValue if !self.string_value => Some(Settings {
                 string_value: true,
+                ..self
+            }),
+            Setting::MergePatch if !self.merge_patch => Some(Settings {
+                merge_patch: true,
+                ..self
+            }),
+            Setting::Verbose if !self.verbose => Some(Settings {
+                verbose: true,
                 ..self
             }),
             Setting::InPlace if !self.in_place => Some(Settings {

@@ -1,7 +1,7 @@
 // The commands.
 ghost use Rattle.std.specs.Prelude.{◌≡◌, option_map};
 ghost use Rattle.mezdruk_arguments.specs.Edits.{verb_name};
-ghost use Rattle.mezdruk_arguments.specs.Arguments.{verb_in, operands_of, takes, file_in, source_in};
+ghost use Rattle.mezdruk_arguments.specs.Arguments.{verb_in, operands_of, takes, file_in, source_in, path_in_option};
 
 use crate::operand::OperandKind;
 use crate::setting::Setting;
@@ -20,8 +20,12 @@ pub enum Verb {
     Fmt,
     /// Reports the errors of documents, and prints nothing else.
     Check,
-    /// Prints the value where a path leads.
+    /// Prints the value where a path leads, or those where several paths lead.
     Get,
+    /// Prints the keys of the object where a path leads.
+    Keys,
+    /// Prints the number of elements or members where a path leads.
+    Length,
     /// Applies a list of edits.
     Edit,
     /// Sets the value where a path leads.
@@ -36,6 +40,10 @@ pub enum Verb {
     Patch,
     /// Applies a JSON Merge Patch (RFC 7396).
     Merge,
+    /// Prints the patch from one document to another.
+    Diff,
+    /// Lays documents over one another, as merge patches (RFC 7396).
+    Overlay,
 }
 
 // The text after the first equals sign, if the text before it is the name and it is not empty.
@@ -58,6 +66,8 @@ impl Verb {
             Verb::Fmt => "fmt",
             Verb::Check => "check",
             Verb::Get => "get",
+            Verb::Keys => "keys",
+            Verb::Length => "length",
             Verb::Edit => "edit",
             Verb::Set => "set",
             Verb::Insert => "insert",
@@ -65,6 +75,8 @@ impl Verb {
             Verb::Remove => "remove",
             Verb::Patch => "patch",
             Verb::Merge => "merge",
+            Verb::Diff => "diff",
+            Verb::Overlay => "overlay",
         }
     }
 
@@ -76,6 +88,8 @@ impl Verb {
             "fmt" => Some(Verb::Fmt),
             "check" => Some(Verb::Check),
             "get" => Some(Verb::Get),
+            "keys" => Some(Verb::Keys),
+            "length" => Some(Verb::Length),
             "edit" => Some(Verb::Edit),
             "set" => Some(Verb::Set),
             "insert" => Some(Verb::Insert),
@@ -83,6 +97,8 @@ impl Verb {
             "remove" => Some(Verb::Remove),
             "patch" => Some(Verb::Patch),
             "merge" => Some(Verb::Merge),
+            "diff" => Some(Verb::Diff),
+            "overlay" => Some(Verb::Overlay),
             _ => None,
         }
     }
@@ -92,13 +108,14 @@ impl Verb {
         ensures { result.now ≡ operands_of self }
     {
         match self {
-            Verb::Get => &[OperandKind::Path],
+            Verb::Get | Verb::Keys | Verb::Length => &[OperandKind::Path],
             Verb::Edit => &[OperandKind::Edits],
             Verb::Set | Verb::Push => &[OperandKind::Path, OperandKind::Value],
             Verb::Insert => &[OperandKind::Path, OperandKind::Key, OperandKind::Value],
             Verb::Remove => &[OperandKind::Path, OperandKind::Step],
             Verb::Patch | Verb::Merge => &[OperandKind::Patch],
-            Verb::Fmt | Verb::Check => &[],
+            Verb::Diff => &[OperandKind::File],
+            Verb::Fmt | Verb::Check | Verb::Overlay => &[],
         }
     }
 
@@ -115,14 +132,29 @@ impl Verb {
         }
     }
 
+    /// Returns the path that an option names, or `None` if it names none.
+    pub(crate) fn named_path<'a>(self, word: &'a str) -> Option<&'a str>
+        ensures { option_map (λ s. s.now) result ≡ path_in_option self word.entry.now }
+    {
+        match self {
+            Verb::Get => text_after_name(word, "--path"),
+            _ => None,
+        }
+    }
+
     /// Returns whether the command has an option that asks for this.
     pub(crate) fn takes(self, setting: Setting) -> bool
         ensures { result ≡ takes self setting }
     {
         match setting {
             Setting::Layout(_) | Setting::SortKeys => self != Verb::Check,
-            Setting::InPlace => self != Verb::Check && self != Verb::Get,
-            Setting::Raw => self == Verb::Get,
+            Setting::InPlace | Setting::Verbose => !matches!(
+                self,
+                Verb::Check | Verb::Get | Verb::Keys | Verb::Length | Verb::Diff
+            ),
+            Setting::MergePatch => self == Verb::Diff,
+            Setting::Input(_) => !matches!(self, Verb::Diff | Verb::Overlay),
+            Setting::Raw => matches!(self, Verb::Get | Verb::Keys),
             Setting::StringValue => matches!(self, Verb::Set | Verb::Insert | Verb::Push),
             _ => true,
         }

@@ -1,10 +1,12 @@
 // What each command does with the documents.
 
+use crate::compare::{compare, overlay};
 use crate::files::{ReadFault, read_bytes, report_unread};
 use crate::missing::Target;
 use crate::run::{Work, run_files};
 use json_command::{Console, Status, report_text};
 use json_data::from_value;
+use json_patch::Pointer;
 use json_text::{Words, check_utf8};
 use json_value::{Path, Value};
 use mezdruk_arguments::{
@@ -13,22 +15,33 @@ use mezdruk_arguments::{
     split_pointer,
 };
 use mezdruk_files::{
-    ApplyMerge, ApplyPatch, EditAll, EditAt, GetPath, GetPointer, InputForm, Job, Unchanged,
-    ValueChange,
+    ApplyMerge, ApplyPatch, EditAll, EditAt, GetAll, GetKeys, GetLength, GetPath, GetPointer,
+    InputForm, Job, Unchanged, ValueChange, ValuePath,
 };
-use std::alloc::AllocError;
+use std::alloc::{AllocError, Global};
+use std::cell::Cell;
 
-// A command with its options and files.
+/// A command with its options and files.
 #[derive(Clone, Copy)]
-struct Task<'a> {
-    verb: Verb,
-    settings: Settings,
-    files: &'a [&'a str],
+pub struct Task<'a> {
+    /// The command.
+    pub verb: Verb,
+    /// Its options.
+    pub settings: Settings,
+    /// Its files.
+    pub files: &'a [&'a str],
+    /// Whether each element of what is found is printed on a line.
+    pub each: bool,
 }
 
 impl<'a> Task<'a> {
-    // Makes a change of each document, where it leads in them, and returns the status.
-    fn run<C: ValueChange + Copy + Drop>(
+    // Returns the task that prints each element of what is found on a line.
+    fn of_each(self) -> Task<'a> {
+        Task { each: true, ..self }
+    }
+
+    /// Makes a change of each document, where it leads in them, and returns the status.
+    pub fn run<C: ValueChange + Copy + Drop>(
         self,
         rt: &HostRuntime,
         console: &mut Console,
@@ -38,6 +51,7 @@ impl<'a> Task<'a> {
         let style = self.settings.style_for(self.verb);
         let mut job = Job::new(change, style, self.settings.rules());
         job.raw = self.settings.raw;
+        job.each = self.each;
         job.input = match self.settings.input {
             None => InputForm::One,
             Some(FormAsked::Lines) => InputForm::Lines,
@@ -48,8 +62,25 @@ impl<'a> Task<'a> {
             target,
             in_place: self.settings.in_place,
             keeps_layout: self.settings.keeps_layout(self.verb),
+            changed: Cell::new(0),
         };
-        run_files(rt, console, self.files, &work)
+        let status = run_files(rt, console, self.files, &work);
+        if self.settings.verbose {
+            self.report_changed(rt, console, work.changed.get());
+        }
+        status
+    }
+
+    // Reports how many of the files were changed in place.
+    fn report_changed(self, rt: &HostRuntime, console: &mut Console, changed: usize) {
+        let (name, count) = (self.verb.name(), self.files.len());
+        let files = if count == 1 { "file" } else { "files" };
+        let report = format!(in rt.alloc();
+            "mezdruk {name}: {changed} of {count} {files} changed\n"
+        );
+        if let Ok(report) = report {
+            report_text(&mut console.errs, report.as_bytes());
+        }
     }
 }
 
@@ -135,26 +166,60 @@ fn read_file(
     }
 }
 
-// Prints the value at a path of each document.
-fn get(rt: &HostRuntime, console: &mut Console, task: Task<'_>, operands: Vec<Value>) -> u8 {
-    let Ok((pointer, operands)) = split_pointer(rt.alloc(), operands) else {
-        return Status::OutOfMemory.number();
-    };
-    if let Some(pointer) = pointer {
-        let pointer = &pointer;
-        return task.run(
-            rt,
-            console,
-            GetPointer { pointer },
-            Target::Pointer(pointer),
-        );
+// Returns the path that an operand is, or `None` if memory runs out.
+fn value_path(alloc: Global, operand: &Value) -> Option<ValuePath> {
+    if let Some(text) = operand.view().text() {
+        return match Pointer::parse(alloc, text) {
+            Ok(pointer) => Some(ValuePath::Pointer(pointer)),
+            Err(_) => None,
+        };
     }
-    let [path, ..] = operands.as_slice() else {
+    match from_value::<Path>(alloc, operand) {
+        Ok(path) => Some(ValuePath::Steps(path)),
+        Err(_) => None,
+    }
+}
+
+// Returns the paths that the operands are, or `None` if memory runs out.
+fn value_paths(alloc: Global, operands: &[Value]) -> Option<Vec<ValuePath>> {
+    let mut paths = Vec::new(alloc);
+    for operand in operands {
+        let path = value_path(alloc, operand)?;
+        if paths.push(path).is_err() {
+            return None;
+        }
+    }
+    Some(paths)
+}
+
+// Prints what is at the paths of each document.
+fn get(rt: &HostRuntime, console: &mut Console, task: Task<'_>, operands: &[Value]) -> u8 {
+    let Some(paths) = value_paths(rt.alloc(), operands) else {
         return Status::OutOfMemory.number();
     };
-    match from_value::<Path>(rt.alloc(), path) {
-        Ok(path) => task.run(rt, console, GetPath { path: &path }, Target::Path(&path)),
-        Err(_) => Status::OutOfMemory.number(),
+    match (task.verb, paths.as_slice()) {
+        (Verb::Keys, [path, ..]) => {
+            let target = Target::Object(path);
+            task.of_each().run(rt, console, GetKeys { path }, target)
+        }
+        (Verb::Length, [path, ..]) => {
+            task.run(rt, console, GetLength { path }, Target::Container(path))
+        }
+        (_, [ValuePath::Pointer(pointer)]) => {
+            task.run(
+                rt,
+                console,
+                GetPointer { pointer },
+                Target::Pointer(pointer),
+            )
+        }
+        (_, [ValuePath::Steps(path)]) => {
+            task.run(rt, console, GetPath { path }, Target::Path(path))
+        }
+        (_, paths) => {
+            let target = Target::Paths(paths);
+            task.of_each().run(rt, console, GetAll { paths }, target)
+        }
     }
 }
 
@@ -215,11 +280,17 @@ pub fn carry_out(
         verb,
         settings,
         files: files.as_slice(),
+        each: false,
     };
     match (verb, operands.as_slice()) {
         (Verb::Fmt | Verb::Check, _) => { task.run(rt, console, Unchanged, Target::Document) }
-        (Verb::Get, _) => get(rt, console, task, operands),
+        (Verb::Get | Verb::Keys | Verb::Length, paths) => get(rt, console, task, paths),
         (Verb::Patch | Verb::Merge, [value, ..]) => patch(rt, console, task, value),
+        (Verb::Overlay, _) => overlay(rt, console, task),
+        (Verb::Diff, [old, ..]) => {
+            let old = old.view().text().unwrap_or("-");
+            compare(rt, console, task, old)
+        }
         (_, _) => edit(rt, console, task, operands),
     }
 }

@@ -7,6 +7,7 @@
 #![tactic(auto)]
 
 mod changes;
+mod compare;
 mod files;
 mod in_place;
 mod missing;

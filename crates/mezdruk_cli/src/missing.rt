@@ -1,14 +1,12 @@
 // Hints where a command leads to no value of a document, or to one of another kind.
 
-use json_doc::{JsonType, read_document_with};
+use json_doc::JsonType;
 use json_patch::Pointer;
 use json_patch::internal::push_escaped;
-use json_text::{Result, Rules, check_utf8};
+use json_text::{Result, Rules};
 use json_value::{Edit, Path, PointerNode, Value, View};
+use mezdruk_files::{ValuePath, read_value};
 use std::alloc::Global;
-
-// The bytes that a document has at most.
-const MAX_BYTES: usize = 4_294_967_295;
 
 /// Where a command leads in each document.
 #[derive(Clone, Copy)]
@@ -19,6 +17,12 @@ pub enum Target<'a> {
     Pointer(&'a Pointer),
     /// To the value at the end of a path.
     Path(&'a Path),
+    /// To the values at several paths.
+    Paths(&'a [ValuePath]),
+    /// To an object.
+    Object(&'a ValuePath),
+    /// To an array or an object.
+    Container(&'a ValuePath),
     /// To the place of a pointer, for an edit there.
     EditAt(&'a Pointer, &'a Edit),
     /// To the places of edits, in turn.
@@ -136,6 +140,33 @@ fn follow_pointer<'a>(alloc: Global, pointer: &Pointer, root: View<'a>) -> Resul
     Ok(Walk::Found(here))
 }
 
+// Follows a path.
+fn follow_path<'a>(alloc: Global, path: &ValuePath, root: View<'a>) -> Result<Walk<'a>> {
+    match path {
+        ValuePath::Pointer(pointer) => follow_pointer(alloc, pointer, root),
+        ValuePath::Steps(path) => follow_steps(alloc, path.steps(), root),
+    }
+}
+
+// Returns the hint at the first of several paths that leads to nothing.
+fn hint_of_paths(alloc: Global, paths: &[ValuePath], root: View<'_>) -> Result<Option<String>> {
+    for path in paths {
+        if let Walk::Missing(hint) = follow_path(alloc, path, root)? {
+            return Ok(Some(hint));
+        }
+    }
+    Ok(None)
+}
+
+// Returns the hint at why there is nothing at the end of a walk, or that the value there is of
+// another kind.
+fn hint_of_kind(alloc: Global, walk: Walk<'_>, kind: &str) -> Result<Option<String>> {
+    match walk {
+        Walk::Found(found) => Ok(Some(found.hint(alloc, kind)?)),
+        Walk::Missing(hint) => Ok(Some(hint)),
+    }
+}
+
 // Returns the hint at why an edit does not apply to the value where it leads.
 fn hint_of_edit(alloc: Global, edit: &Edit, walk: Walk<'_>) -> Result<Option<String>> {
     let found = match walk {
@@ -183,16 +214,21 @@ pub fn hint_of_target(
     rules: Rules,
     target: Target<'_>,
 ) -> Result<Option<String>> {
-    if bytes.len() > MAX_BYTES {
-        return Ok(None);
-    }
-    let doc = read_document_with(alloc, check_utf8(bytes)?, rules)?;
-    let value = Value::from_place(alloc, &doc, doc.root())?;
+    let value = read_value(alloc, bytes, rules)?;
     let root = value.view();
     match target {
         Target::Document => Ok(None),
         Target::Pointer(pointer) => Ok(hint_of_walk(follow_pointer(alloc, pointer, root)?)),
         Target::Path(path) => Ok(hint_of_walk(follow_steps(alloc, path.steps(), root)?)),
+        Target::Paths(paths) => hint_of_paths(alloc, paths, root),
+        Target::Object(path) => {
+            let walk = follow_path(alloc, path, root)?;
+            hint_of_kind(alloc, walk, ", and no object")
+        }
+        Target::Container(path) => {
+            let walk = follow_path(alloc, path, root)?;
+            hint_of_kind(alloc, walk, ", and no array or object")
+        }
         Target::EditAt(pointer, edit) => {
             let walk = follow_pointer(alloc, pointer, root)?;
             hint_of_edit(alloc, edit, walk)

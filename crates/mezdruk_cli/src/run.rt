@@ -90,6 +90,8 @@ pub struct Work<'a, C> {
     pub in_place: bool,
     /// Whether it is written in the layout that it has.
     pub keeps_layout: bool,
+    /// How many files were changed in place.
+    pub changed: Cell<usize>,
 }
 
 impl<'a, C> Work<'a, C> {
@@ -168,7 +170,10 @@ fn write_in_place<C: ValueChange + Copy>(
         return status;
     }
     match replace_content(rt, document.name.as_str(), text.as_slice()) {
-        Ok(()) => status,
+        Ok(()) => {
+            work.changed.set(work.changed.get().saturating_add(1));
+            status
+        }
         Err(error) => {
             let (name, reason) = (document.name.as_str(), reason_of(&error));
             report_file(rt, console, name, reason, Status::WriteFailed)

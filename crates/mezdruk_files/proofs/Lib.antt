@@ -8,4 +8,6 @@ pub mod SmallStatuses
 pub mod Handled
 pub mod ValueStreams
 pub mod HandledStreams
+pub mod ValuePaths
+pub mod EachLine
 pub mod EditedTexts

@@ -26,7 +26,7 @@ sorts_members job = elim job.style [ Some style ↦ is_sorted style | None ↦ f
 
 -- the job in another style
 abbrev pub in_style : {C : Type 0} → Job C → Style → Job C
-in_style job style = record job { style = Some style; raw = false }
+in_style job style = record job { style = Some style; raw = false; each = false }
 
 -- the output, without the newline at its end if the bytes have none
 abbrev pub with_end_of : List ℕ → List ℕ → List ℕ

@@ -12,5 +12,8 @@ pub mod Running
 pub mod EditLists
 pub mod PatchOutcomes
 pub mod Patches
+pub mod ValuePaths
 pub mod FoundLayouts
 pub mod EditedTexts
+pub mod Differences
+pub mod Overlays

@@ -12,7 +12,7 @@ use Rattle.json_io.specs.declared.error.Place.{Place}
 use Rattle.json_io.specs.declared.error.Place.TheVariants.{None as nowhere}
 use Rattle.json_io.specs.Errors.{reading_failed}
 use Rattle.json_text.specs.Ruled.{rules_of}
-use Rattle.json_doc.specs.Readings.{string_of}
+use Rattle.json_doc.specs.Readings.{elements, string_of}
 use Rattle.json_layout.specs.Styles.{printed}
 use Rattle.json_layout.specs.declared.style.Style.{Style}
 use Rattle.json_command.specs.Input.{IsInput, InputFault}
@@ -37,8 +37,13 @@ abbrev pub line_in : Bool → Option Style → Tree → List ℕ
 line_in raw None tree = []
 line_in raw (Some style) tree = printed_or_string raw style tree ++ 10 ∷ []
 
+-- the lines of a tree: its line, or that of each element if these are printed each
+abbrev pub lines_in : Bool → Bool → Option Style → Tree → List ℕ
+lines_in false raw style tree = line_in raw style tree
+lines_in true raw style tree = flat_map (line_in raw style) (elements tree)
+
 -- what is done with documents: how their bytes are cut, the rules by which they are read, what becomes of a tree, and the
--- line of a tree
+-- lines of a tree
 pub record Task : Type 0 where
   pub form : InputForm
   pub rules : Rules
@@ -47,7 +52,7 @@ pub record Task : Type 0 where
 
 -- what a job asks for, if its change makes this of a tree
 abbrev pub task_of : {C : Type 0} → (C → Tree → Result Tree ChangeError) → Job C → Task
-task_of changed job = record { form = job.input; rules = rules_of job.rules; changed = changed job.change; line = line_in job.raw job.style }
+task_of changed job = record { form = job.input; rules = rules_of job.rules; changed = changed job.change; line = lines_in job.each job.raw job.style }
 
 -- ---- the outcome of a part of a document
 

@@ -6,10 +6,12 @@ ghost use Rattle.mezdruk_files.specs.Documents.{document_bytes};
 ghost use Rattle.mezdruk_files.specs.Running.{ReadingDocumentFails};
 ghost use Rattle.json_io.specs.Errors.{OnlyNoMemory};
 ghost use Rattle.json_text.specs.Ruled.{rules_of};
+ghost use Rattle.json_value.specs.Denotes.{tree_of};
 
 use json_doc::{Doc, read_document_with};
 use json_io::{Error, ErrorCode, Place, Result, check_utf8};
 use json_text::Rules;
+use json_value::Value;
 use std::alloc::Global;
 use std::rc::Rc;
 
@@ -63,6 +65,27 @@ pub(crate) fn read_bytes(alloc: Global, bytes: &[u8], rules: Rules) -> Result<Rc
     }
     match check_utf8(bytes) {
         Ok(text) => read_document_with(alloc, text, rules),
+        Err(error) => Err(error),
+    }
+}
+
+/// Reads the value of the document of bytes by the rules (RFC 8259). Fails with `TooLarge` past
+/// 4,294,967,295 bytes, `InvalidUTF8` and each fault of the grammar by the rules at its offset, and
+/// `NoMemory` if memory runs out.
+///
+/// ```
+/// use mezdruk_files::read_value;
+/// use json_text::Rules;
+/// let value = read_value(alloc, b"[1, 2]", Rules::usual())?;
+/// assert_eq!(rt; value.to_string(alloc)?.as_str(), "[1,2]");
+/// ```
+pub fn read_value(alloc: Global, bytes: &[u8], rules: Rules) -> Result<Value>
+    ensures ok { IfOk result (λ v. IsInput (rules_of rules) bytes.now (tree_of v)) }
+    ensures err { IfErr result
+        (λ e. ReadingDocumentFails (rules_of rules) bytes.now e.code e.place) }
+{
+    match read_bytes(alloc, bytes, rules) {
+        Ok(doc) => Value::from_place(alloc, &doc, doc.root()),
         Err(error) => Err(error),
     }
 }

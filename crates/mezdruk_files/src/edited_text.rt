@@ -57,6 +57,7 @@ fn in_style<'a, C: Copy>(job: &Job<'_, C>, style: Style<'a>) -> Job<'a, C>
         rules: job.rules,
         input: job.input,
         raw: false,
+        each: false,
     }
 }
 

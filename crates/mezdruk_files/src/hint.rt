@@ -3,7 +3,7 @@ ghost use Rattle.std.specs.Prelude.{◌≡◌, true, IfSome, option_map};
 ghost use Rattle.mezdruk_files.specs.Sentences.{is_hint, HintFits};
 
 use crate::document_error::DocumentError;
-use crate::part::{DocumentPart, Scope};
+use crate::part::{DocumentPart, Scope, is_blank};
 use json_io::{Error, ErrorCode};
 
 // Returns whether the last byte before the offset that is no whitespace is a comma.
@@ -44,18 +44,39 @@ fn hint_at_value(scope: Scope) -> &'static str
     }
 }
 
+// Returns a hint at the bytes where a value is expected.
+fn hint_at_no_value(bytes: &[u8]) -> Option<&'static str>
+    ensures { IfSome result (λ h. is_hint h.now ≡ true) }
+{
+    match bytes {
+        [b'T' | b'F', ..] | [b'N', b'u' | b'U' | b'o' | b'O', ..] => {
+            Some("the literals are `null`, `true` and `false`, in lower case")
+        }
+        [b'N' | b'I', ..] => Some("JSON has no NaN and no Infinity"),
+        [b'u', ..] => Some("JSON has no `undefined`"),
+        [b'.', ..] => Some("a number has digits on both sides of its point"),
+        [b'+', ..] => Some("a number has no plus sign"),
+        [b'\'', ..] => Some("strings and keys have double quotes"),
+        _ => None,
+    }
+}
+
+// Returns whether the byte before the offset is a zero.
+fn follows_zero(bytes: &[u8], offset: usize) -> bool {
+    matches!(bytes.get(..offset), Some([.., b'0']))
+}
+
 // Returns a hint at the byte where the error is, outside of strings.
 fn hint_at_byte(code: ErrorCode, byte: u8) -> Option<&'static str>
     ensures { IfSome result (λ h. is_hint h.now ≡ true) }
 {
     match (code, byte) {
         (ErrorCode::InvalidNumber, b'0'..=b'9') => Some("a number has no leading zeros"),
-        (ErrorCode::InvalidNumber | ErrorCode::InvalidJsonValue, b'N' | b'I') => {
-            Some("JSON has no NaN and no Infinity")
+        (ErrorCode::InvalidNumber, b'N' | b'I') => Some("JSON has no NaN and no Infinity"),
+        (ErrorCode::InvalidNumber, b'.') => {
+            Some("a number has digits on both sides of its point")
         }
-        (ErrorCode::InvalidJsonValue | ErrorCode::ExpectObjectKeyOrEnd, b'\'') => {
-            Some("strings and keys have double quotes")
-        }
+        (ErrorCode::ExpectObjectKeyOrEnd, b'\'') => Some("strings and keys have double quotes"),
         (
             ErrorCode::InvalidJsonValue
             | ErrorCode::ExpectObjectKeyOrEnd
@@ -73,7 +94,8 @@ fn hint_at_byte(code: ErrorCode, byte: u8) -> Option<&'static str>
 fn hint_at(part: DocumentPart<'_>, code: ErrorCode, offset: usize) -> Option<&'static str>
     ensures { IfSome result (λ h. is_hint h.now ≡ true) }
 {
-    let byte = *part.bytes.get(offset)?;
+    let rest = part.bytes.get(offset..)?;
+    let byte = *rest.first()?;
     if let Some(hint) = hint_at_byte(code, byte) {
         return Some(hint);
     }
@@ -82,8 +104,28 @@ fn hint_at(part: DocumentPart<'_>, code: ErrorCode, offset: usize) -> Option<&'s
         (ErrorCode::InvalidJsonValue, b']') if follows_comma(part.bytes, offset) => {
             Some("JSON has no comma before a closing bracket")
         }
+        (ErrorCode::InvalidJsonValue, _) => hint_at_no_value(rest),
+        (
+            ErrorCode::TrailingCharacters
+            | ErrorCode::ExpectedArrayCommaOrEnd
+            | ErrorCode::ExpectedObjectCommaOrEnd,
+            b'x' | b'X',
+        ) if follows_zero(part.bytes, offset) => Some("JSON has no hexadecimal numbers"),
         (ErrorCode::TrailingCharacters, b'{' | b'[' | b'"' | b'-' | b'0'..=b'9') => {
             Some(hint_at_value(part.scope))
+        }
+        _ => None,
+    }
+}
+
+// Returns a hint at an error at the end of the bytes.
+fn hint_at_end(part: DocumentPart<'_>, code: ErrorCode) -> Option<&'static str>
+    ensures { IfSome result (λ h. is_hint h.now ≡ true) }
+{
+    match code {
+        ErrorCode::EofWhileParsing if part.bytes.is_empty() => Some("the input is empty"),
+        ErrorCode::EofWhileParsing if is_blank(part.bytes) => {
+            Some("the input has only whitespace")
         }
         _ => None,
     }
@@ -99,6 +141,9 @@ fn hint_of_input(part: DocumentPart<'_>, error: &Error) -> Option<&'static str>
         if hint.is_some() {
             return hint;
         }
+    }
+    if offset == part.bytes.len() {
+        return hint_at_end(part, error.code);
     }
     hint_at(part, error.code, offset)
 }

@@ -13,6 +13,7 @@ use crate::change::ValueChange;
 use crate::change_error::{ChangeCode, ChangeError};
 use crate::document::read_bytes;
 use crate::document_error::DocumentError;
+use crate::each_line::write_lines;
 use json_command::{print_value, write_text};
 use json_doc::Doc;
 use json_io::{Error, ErrorCode, Place, Result, Sink};
@@ -65,6 +66,9 @@ pub struct Job<'a, C> {
     pub input: InputForm,
     /// Whether a value that is a string is printed as its content, without quotes and escapes.
     pub raw: bool,
+    /// Whether each element of the changed array is printed on a line of its own. Nothing is printed
+    /// then of a value that is no array.
+    pub each: bool,
 }
 
 impl<'a, C> Job<'a, C> {
@@ -76,6 +80,7 @@ impl<'a, C> Job<'a, C> {
         ensures rules { result.rules ≡ rules }
         ensures input { result.input ≡ One }
         ensures raw { result.raw ≡ false }
+        ensures each { result.each ≡ false }
     {
         Job {
             change,
@@ -83,6 +88,7 @@ impl<'a, C> Job<'a, C> {
             rules,
             input: InputForm::One,
             raw: false,
+            each: false,
         }
     }
 }
@@ -112,8 +118,8 @@ fn print_document<K: Sink>(
     print_value(alloc, value, style, sink)
 }
 
-// Prints the line of the value, or nothing if there is no style.
-fn write_line<K: Sink>(
+/// Prints the line of the value, or nothing if there is no style.
+pub(crate) fn write_line<K: Sink>(
     alloc: Global,
     value: &Value,
     style: Option<Style<'_>>,
@@ -171,7 +177,7 @@ pub(crate) fn print_changed<C: ValueChange, K: Sink>(
         Ok(Err(error)) => return Ok(Some(error)),
         Err(error) => return Err(error),
     };
-    match write_line(alloc, &value, job.style, job.raw, sink) {
+    match write_lines(alloc, &value, job, sink) {
         Ok(()) => Ok(None),
         Err(error) => Err(error),
     }

@@ -1,7 +1,7 @@
 // The reports of errors.
 ghost use Rattle.std.specs.Prelude.{◌≡◌, ◌≤◌, ◌+◌, ◌++◌, List, ℕ, true, Option, None, length, codes, decimal, IfOk, OnOk, IfSome, option_map};
 ghost use Rattle.mezdruk_files.specs.Excerpts.{IsExcerpt};
-ghost use Rattle.mezdruk_files.specs.Parts.{part_view, HasFewLines};
+ghost use Rattle.mezdruk_files.specs.Parts.{part_view, whole_part as spec_whole_part, HasFewLines};
 ghost use Rattle.mezdruk_files.specs.Reports.{IsReport, IsHeadline, IsExcerptAt, location, error_place, document_error_name, change_name, report_offset, position_of};
 ghost use Rattle.mezdruk_files.specs.Sentences.{input_sentence, is_lower_case, document_sentence, counted_word, scope_number as number_of, hint_line};
 ghost use Rattle.json_io.specs.Errors.{name_of, OnlyNoMemory};
@@ -10,7 +10,7 @@ use crate::change_error::ChangeError;
 use crate::document_error::DocumentError;
 use crate::excerpt::push_excerpt;
 use crate::hint::hint_of;
-use crate::part::{DocumentPart, Scope};
+use crate::part::{DocumentPart, Scope, whole_part};
 use itoa::Buffer;
 use json_io::{Error, ErrorCode, FaultText, Place, Result, fault_text, place_of};
 use std::alloc::Global;
@@ -311,6 +311,31 @@ pub(crate) fn document_report(
     push_excerpt_at(&mut text, part.bytes, offset)?;
     push_hint(&mut text, hint_of(part, error))?;
     Ok(text)
+}
+
+/// Returns the report of an error in the document of this name, whose text `bytes` are: a line
+/// `NAME:LINE:COLUMN: sentence (CodeName)`, without a line and a column if the error has no place
+/// in the text. If it has one, the line of the text there follows, cut to 76 bytes, with a caret
+/// below the byte, and then a hint if the cause is a usual one. Fails with `NoMemory` if memory runs
+/// out.
+///
+/// ```
+/// use json_text::{check_utf8, place_of, Error, ErrorCode};
+/// use mezdruk_files::input_report;
+/// let place = place_of(b"[1,]", 3);
+/// let error = Error { code: ErrorCode::InvalidJsonValue, place };
+/// let report = input_report(alloc, "a.json", b"[1,]", &error)?;
+/// let expected = b"a.json:1:4: a value is expected (InvalidJsonValue)\n[1,]\n   ^\n\
+///     hint: JSON has no comma before a closing bracket\n";
+/// assert_eq!(rt; report.as_slice(), expected.as_slice());
+/// ```
+pub fn input_report(alloc: Global, name: &str, bytes: &[u8], error: &Error) -> Result<Vec<u8>>
+    ensures ok { IfOk result (λ report. IsReport (spec_whole_part name.now bytes.now)
+        (DocumentError.Input error.now) report.items) }
+    ensures only { OnlyNoMemory result }
+{
+    let part = whole_part(name, bytes);
+    document_report(alloc, part, &DocumentError::Input(*error), "")
 }
 
 /// Returns the report of a file that could not be read or written: the line `NAME: REASON (Io)` and

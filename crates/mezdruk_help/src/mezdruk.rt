@@ -14,6 +14,8 @@ Commands:
   fmt                      lay documents out, by two spaces
   check                    print nothing; errors and the status tell
   get PATH                 print the value where the path leads
+  keys PATH, length PATH   print the keys of the object there, one a line, or the
+                           number of elements or members
   edit EDITS               apply an array of edits in turn
   set PATH VALUE           put a value where the path leads
   insert PATH KEY VALUE    put a member into the object there
@@ -21,6 +23,10 @@ Commands:
   remove PATH STEP         take a key or an index out
   patch PATCH              apply a JSON Patch (RFC 6902)
   merge PATCH              apply a JSON Merge Patch (RFC 7396)
+  overlay FILE..           merge the documents of the files after the first into
+                           that of the first, one after another
+  diff OLD NEW             print the patch from the document of the file OLD to
+                           that of NEW; status 1 if the two differ
   reshape, lines, rpc, history
                            run that program on the arguments that follow;
                            `mezdruk lines --help` prints the help of `lines`
@@ -32,7 +38,7 @@ from 0:
   mezdruk set /version '\"1.3.0\"' package.json
 EDITS are as in `reshape`: '[[\"set\", [\"version\"], \"1.3.0\"]]'.
 
-Options, in any order, each at most once:
+Options, in any order, each at most once but for --path:
   -c, --compact, --pretty, --indent=N, --indent N, --tabs
                            no whitespace; an indent of two spaces, of N spaces,
                            0 to 8, or of a tab; compact where none is given, but
@@ -40,15 +46,19 @@ Options, in any order, each at most once:
   -S, --sort-keys          sort the members of each object by their keys
   --unique-keys            refuse an object with two members of one key
   --depth=N                refuse more than N levels, 0 to 1024; 254 without it
-  -r, --raw                of get: print a string's content
+  -r, --raw                of get and keys: print a string's content
+  --path=PATH              of get, any number of times: one more value, on a
+                           line of its own
+  --merge                  of diff: print a merge patch
   --string                 of set, insert and push, before VALUE: take it as a
                            string
   --lines                  each line of the input is a document
   --stream                 documents follow one another; not with --unique-keys
                            and not with --depth=N
-  -i, --in-place           write each FILE in place, not of check and get; an
-                           edit keeps the layout of the file if no option asks
-                           for one
+  -i, --in-place           write each FILE in place, not of check, get, keys,
+                           length and diff; an edit keeps the layout of the
+                           file if no option asks for one
+  -v, --verbose            beside -i: say how many of the files were changed
   --edits=FILE, --patch=FILE, --merge=FILE
                            take EDITS or PATCH from a file, for edit, patch and
                            merge; before operands and files
@@ -58,8 +68,8 @@ Options, in any order, each at most once:
 
 Status: the greatest of those of the documents
   0  done
-  1  a document is not valid
-  2  the arguments are not valid
+  1  a document is not valid; of diff: the two differ
+  2  the arguments are not valid; of diff: also if a document is not valid
   3  an edit or a patch does not apply
   4  reading failed
   5  writing failed, or nobody reads the output

@@ -1,6 +1,6 @@
 # Completion of `mezdruk` for bash, and of the script: `source tools/completions/bash/mezdruk.bash` completes `./mezdruk`.
 # The arguments of a program are completed by its own file beside this one.
-_mezdruk_commands="fmt check get edit set insert push remove patch merge"
+_mezdruk_commands="fmt check get keys length edit set insert push remove patch merge diff overlay"
 _mezdruk_programs="reshape lines rpc history"
 _mezdruk_folder=$(dirname "${BASH_SOURCE[0]}")
 for _mezdruk_name in $_mezdruk_programs json_patch; do
@@ -29,15 +29,21 @@ _mezdruk_command() {
     fi
     [[ $given =~ \ --(unique-keys|stream)\  ]] || words+=" --unique-keys"
     [[ $given =~ \ --(depth|stream)[\ =] ]] || words+=" --depth="
-    [[ $given =~ \ --(lines|stream)\  ]] || words+=" --lines"
-    [[ $given =~ \ --(lines|stream|unique-keys|depth)[\ =] ]] || words+=" --stream"
-    [[ $command != get || $given =~ \ (-r|--raw)\  ]] || words+=" --raw"
+    if [[ ! $command =~ ^(diff|overlay)$ ]]; then
+        [[ $given =~ \ --(lines|stream)\  ]] || words+=" --lines"
+        [[ $given =~ \ --(lines|stream|unique-keys|depth)[\ =] ]] || words+=" --stream"
+    fi
+    [[ ! $command =~ ^(get|keys)$ || $given =~ \ (-r|--raw)\  ]] || words+=" --raw"
+    [[ $command != get ]] || words+=" --path="
     [[ ! $command =~ ^(set|insert|push)$ || $given =~ \ --string\  ]] || words+=" --string"
-    [[ $command == check || $command == get || $given =~ \ (-i|--in-place)\  ]] ||
+    [[ $command =~ ^(check|get|keys|length|diff)$ || $given =~ \ (-i|--in-place)\  ]] ||
         words+=" --in-place"
+    [[ $command =~ ^(check|get|keys|length|diff)$ || $given =~ \ (-v|--verbose)\  ]] ||
+        words+=" --verbose"
     case $command in
         edit) [[ $given =~ \ --edits[\ =] ]] || words+=" --edits=" ;;
         patch) [[ $given =~ \ --patch[\ =] ]] || words+=" --patch=" ;;
+        diff) [[ $given =~ \ --merge\  ]] || words+=" --merge" ;;
         merge) [[ $given =~ \ --merge[\ =] ]] || words+=" --merge=" ;;
     esac
     ((COMP_CWORD != 2)) || words+=" --help"

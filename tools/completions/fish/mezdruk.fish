@@ -24,17 +24,22 @@ function __mezdruk_takes -d 'Whether the command is one of the first list, and n
     return 0
 end
 set -l first 'test (count (commandline -opc)) -eq 1'
-set -l prints fmt,get,edit,set,insert,push,remove,patch,merge
-set -l writes fmt,edit,set,insert,push,remove,patch,merge
+set -l reads fmt,get,keys,length,edit,set,insert,push,remove,patch,merge
+set -l prints $reads,diff,overlay
+set -l writes fmt,edit,set,insert,push,remove,patch,merge,overlay
 set -l texts set,insert,push
 set -l layouts -c --compact --pretty --indent --tabs
 complete -c mezdruk -n $first -f -a 'fmt' -d 'lay documents out'
 complete -c mezdruk -n $first -f -a 'check' -d 'print nothing but errors'
 complete -c mezdruk -n $first -f -a 'get' -d 'print the value at a path'
+complete -c mezdruk -n $first -f -a 'keys' -d 'print the keys of an object'
+complete -c mezdruk -n $first -f -a 'length' -d 'print how many elements or members there are'
 complete -c mezdruk -n $first -f -a 'edit' -d 'apply edits'
 complete -c mezdruk -n $first -f -a 'set insert push remove' -d 'apply one edit'
 complete -c mezdruk -n $first -f -a 'patch' -d 'apply a JSON Patch'
 complete -c mezdruk -n $first -f -a 'merge' -d 'apply a JSON Merge Patch'
+complete -c mezdruk -n $first -f -a 'diff' -d 'print the patch between two documents'
+complete -c mezdruk -n $first -f -a 'overlay' -d 'lay documents over one another'
 complete -c mezdruk -n $first -f -a 'reshape lines rpc history' -d 'run that program'
 complete -c mezdruk -n "$first; and __mezdruk_is_script" -f -a 'json_patch' -d 'run that program'
 complete -c mezdruk -n "$first; and __mezdruk_is_script" -f -a '--build' -d 'prove and build the programs'
@@ -50,13 +55,16 @@ complete -c mezdruk -n "__mezdruk_takes $prints $layouts" -a '--tabs' -d 'indent
 complete -c mezdruk -n "__mezdruk_takes $prints -S --sort-keys" -a '--sort-keys' -d 'sort the members of each object'
 complete -c mezdruk -n "__mezdruk_takes check,$prints --unique-keys --stream" -a '--unique-keys' -d 'refuse two members of one key'
 complete -c mezdruk -n "__mezdruk_takes check,$prints --depth --stream" -a '--depth=' -d 'refuse input of more levels, 254 without it'
-complete -c mezdruk -n "__mezdruk_takes check,$prints --lines --stream" -a '--lines' -d 'each line is a document'
-complete -c mezdruk -n "__mezdruk_takes check,$prints --lines --stream --unique-keys --depth" -a '--stream' -d 'documents follow one another'
-complete -c mezdruk -n '__mezdruk_takes get -r --raw' -a '--raw' -d 'print the content of a string'
+complete -c mezdruk -n "__mezdruk_takes check,$reads --lines --stream" -a '--lines' -d 'each line is a document'
+complete -c mezdruk -n "__mezdruk_takes check,$reads --lines --stream --unique-keys --depth" -a '--stream' -d 'documents follow one another'
+complete -c mezdruk -n '__mezdruk_takes get,keys -r --raw' -a '--raw' -d 'print the content of a string'
+complete -c mezdruk -n '__mezdruk_takes get' -a '--path=' -d 'print one more value'
 complete -c mezdruk -n "__mezdruk_takes $texts --string" -a '--string' -d 'take the value as a string'
 complete -c mezdruk -n "test (count (commandline -opc)) -eq 2; and __mezdruk_takes check,$prints" -a '--help' -d 'print the help of the command'
-complete -c mezdruk -n 'test (count (commandline -opc)) -eq 2; and test (commandline -opc)[2] = help' -f -a 'fmt check get edit set insert push remove patch merge reshape lines rpc history'
+complete -c mezdruk -n 'test (count (commandline -opc)) -eq 2; and test (commandline -opc)[2] = help' -f -a 'fmt check get keys length edit set insert push remove patch merge diff overlay reshape lines rpc history'
 complete -c mezdruk -n "__mezdruk_takes $writes -i --in-place" -a '--in-place' -d 'write each file in place'
+complete -c mezdruk -n "__mezdruk_takes $writes -v --verbose" -a '--verbose' -d 'say how many files were changed'
 complete -c mezdruk -n '__mezdruk_takes edit --edits' -a '--edits=' -d 'take the edits from a file'
 complete -c mezdruk -n '__mezdruk_takes patch --patch' -a '--patch=' -d 'take the patch from a file'
 complete -c mezdruk -n '__mezdruk_takes merge --merge' -a '--merge=' -d 'take the patch from a file'
+complete -c mezdruk -n '__mezdruk_takes diff --merge' -a '--merge' -d 'print a merge patch'

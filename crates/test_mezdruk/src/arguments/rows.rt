@@ -25,6 +25,12 @@ pub const ROWS: &str = r#"# valid
 |0|||remove|/a|0|
 |0|||get|-r|/a|
 |0|||fmt|-c|-S|
+|0|||get|/a|--path=/b|--path=["c",0]|a.json|
+|0|||get|--path=/a|a.json|--path=/b|-r|
+|0|||get|--path=[]|
+|0|||keys||
+|0|||keys|["a"]|--raw|a.json|--lines|
+|0|||length|/a|a.json|
 |0|||fmt|--indent|8|a.json|
 |0|||get|--indent|0|/a|
 |0|||insert|["a"]|"b"|{"c":1.50}|a.json|
@@ -33,6 +39,13 @@ pub const ROWS: &str = r#"# valid
 |0|||patch|[]|a.json|
 |0|||merge|{"a":null}|--compact|
 |0|||merge|--merge=m.json|
+|0|||fmt|-i|--verbose|a.json|
+|0|||set|-v|/a|1|a.json|
+|0|||overlay|a.json|b.json|-|--pretty|
+|0|||overlay|-i|--unique-keys|a.json|b.json|
+|0|||diff|a.json|b.json|
+|0|||diff|--merge|-|--pretty|-S|
+|0|||diff|--unique-keys|a.json|--depth=3|b.json|c.json|
 # the command
 |2||mezdruk: there is no command|
 |2||mezdruk: there is no command `fmtt`; did you mean `fmt`?|fmtt|
@@ -52,6 +65,10 @@ pub const ROWS: &str = r#"# valid
 |2||mezdruk: there is no command `find`; did you mean `get`?|find|
 |2||mezdruk: there is no command `query`; did you mean `get`?|query|
 |2||mezdruk: there is no command `show`; did you mean `get`?|show|
+|2||mezdruk: there is no command `count`; did you mean `length`?|count|
+|2||mezdruk: there is no command `overlya`; did you mean `overlay`?|overlya|
+|2||mezdruk: there is no command `compare`; did you mean `diff`?|compare|
+|2||mezdruk: there is no command `members`; did you mean `keys`?|members|
 |2||mezdruk: there is no command `package.json`|package.json|
 |2||mezdruk: there is no command `--pretty`|--pretty|fmt|
 |2||mezdruk: there is no command ``||
@@ -63,6 +80,17 @@ pub const ROWS: &str = r#"# valid
 |2||mezdruk check: the command has no option `--compact`|check|--compact|
 |2||mezdruk get: the command has no option `-i`|get|-i|
 |2||mezdruk set: the command has no option `--edits=e.json`|set|--edits=e.json|
+|2||mezdruk keys: the command has no option `-i`|keys|-i|
+|2||mezdruk get: the command has no option `--verbose`|get|--verbose|
+|2||mezdruk length: the command has no option `--raw`|length|--raw|
+|2||mezdruk keys: the command has no option `--path=/a`|keys|--path=/a|
+|2||mezdruk diff: the command has no option `-i`|diff|a.json|-i|
+|2||mezdruk diff: the command has no option `--lines`|diff|--lines|
+|2||mezdruk overlay: the command has no option `--stream`|overlay|--stream|a.json|
+|2||mezdruk diff: the command has no option `--merge=m.json`|diff|--merge=m.json|
+|2||mezdruk merge: `--merge`: the option takes the name of a file|merge|--merge|
+|2||mezdruk get: `--path=`: the option takes a JSON Pointer, as --path=/tags/0, or a JSON array of steps|get|--path=|
+|2||mezdruk get: `--path`: the option takes a JSON Pointer, as --path=/tags/0, or a JSON array of steps|get|--path|/a|
 |2||mezdruk fmt: `--indent=9`: the option takes a number from 0 to 8|fmt|--indent=9|
 |0|||fmt|--indent|4|
 |2||mezdruk fmt: `a.json`: --indent takes a number from 0 to 8|fmt|--indent|a.json|
@@ -83,6 +111,8 @@ pub const ROWS: &str = r#"# valid
 |2||mezdruk fmt: `--indent` asks for a second layout|fmt|-c|--indent|4|
 |2||mezdruk fmt: `-c` asks for a second layout|fmt|--indent|4|-c|
 |2||mezdruk fmt: `-S`: the option occurs twice|fmt|--sort-keys|-S|
+|2||mezdruk set: `-v`: the option occurs twice|set|--verbose|-v|
+|2||mezdruk diff: `--merge`: the option occurs twice|diff|--merge|--merge|
 |2||mezdruk set: `--string`: the option occurs twice|set|--string|--string|
 |2||mezdruk set: `--string`: the option has to come before VALUE|set|/a|"b"|--string|
 |2||mezdruk fmt: `--sort-keys`: the option occurs twice|fmt|--sort-keys|a|--sort-keys|
@@ -105,10 +135,12 @@ pub const ROWS: &str = r#"# valid
 # operands that are missing
 |2||mezdruk edit: EDITS is missing|edit|
 |2||mezdruk get: PATH is missing|get|--raw|
+|2||mezdruk keys: PATH is missing|keys|
 |2||mezdruk set: VALUE is missing|set|[]|
 |2||mezdruk insert: KEY is missing|insert|[]|
 |2||mezdruk remove: STEP is missing|remove|[]|
 |2||mezdruk merge: PATCH is missing|merge|--tabs|
+|2||mezdruk diff: OLD is missing|diff|--merge|
 # operands that are no JSON text
 |2||mezdruk edit: EDITS is no JSON text: EofWhileParsing at offset 1, line 1 column 2|edit|[|
 |2||mezdruk edit: EDITS is no JSON text: InvalidJsonValue at offset 0, line 1 column 1|edit|a.json|
@@ -128,6 +160,8 @@ pub const ROWS: &str = r#"# valid
 |2||mezdruk set: PATH is no JSON Pointer and no array of steps|set|"/version"|2|
 |2||mezdruk set: PATH is no JSON Pointer and no array of steps|set|/a~2|2|
 |2||mezdruk get: PATH is no JSON Pointer and no array of steps|get|/a~|
+|2||mezdruk get: PATH is no JSON Pointer and no array of steps|get|/a|--path=/a~|
+|2||mezdruk get: PATH is no JSON Pointer and no JSON text: InvalidJsonValue at offset 0, line 1 column 1|get|/a|--path=b|
 |2||mezdruk set: step 1 of PATH is no string and no index|set|["a",1.5]|2|
 |2||mezdruk insert: KEY is no string|insert|[]|1|2|
 |2||mezdruk remove: STEP is no string and no index|remove|[]|-1|

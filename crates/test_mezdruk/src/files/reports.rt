@@ -11,11 +11,13 @@ type Row = (&'static [u8], &'static [u8]);
 const ENDS: &[Row] = &[
     (
         b"",
-        b"f:1:1: the input ends before its value does (EofWhileParsing)\n\n^\n",
+        b"f:1:1: the input ends before its value does (EofWhileParsing)\n\n^\n\
+          hint: the input is empty\n",
     ),
     (
         b" \n ",
-        b"f:2:2: the input ends before its value does (EofWhileParsing)\n \n ^\n",
+        b"f:2:2: the input ends before its value does (EofWhileParsing)\n \n ^\n\
+          hint: the input has only whitespace\n",
     ),
     (
         b"tru",
@@ -110,6 +112,41 @@ const OTHER_FORMATS: &[Row] = &[
           -Infinity\n ^\nhint: JSON has no NaN and no Infinity\n",
     ),
     (
+        b"True",
+        b"f:1:1: a value is expected (InvalidJsonValue)\nTrue\n^\n\
+          hint: the literals are `null`, `true` and `false`, in lower case\n",
+    ),
+    (
+        b"[None]",
+        b"f:1:2: a value is expected (InvalidJsonValue)\n[None]\n ^\n\
+          hint: the literals are `null`, `true` and `false`, in lower case\n",
+    ),
+    (
+        b"{\"a\": undefined}",
+        b"f:1:7: a value is expected (InvalidJsonValue)\n{\"a\": undefined}\n      ^\n\
+          hint: JSON has no `undefined`\n",
+    ),
+    (
+        b"[.5]",
+        b"f:1:2: a value is expected (InvalidJsonValue)\n[.5]\n ^\n\
+          hint: a number has digits on both sides of its point\n",
+    ),
+    (
+        b"+1",
+        b"f:1:1: a value is expected (InvalidJsonValue)\n+1\n^\n\
+          hint: a number has no plus sign\n",
+    ),
+    (
+        b"0x10",
+        b"f:1:2: only whitespace may follow the value (TrailingCharacters)\n0x10\n ^\n\
+          hint: JSON has no hexadecimal numbers\n",
+    ),
+    (
+        b"[0X1f]",
+        b"f:1:3: a comma or `]` is expected after the element (ExpectedArrayCommaOrEnd)\n\
+          [0X1f]\n  ^\nhint: JSON has no hexadecimal numbers\n",
+    ),
+    (
         b"[1, // one\n2]",
         b"f:1:5: a value is expected (InvalidJsonValue)\n[1, // one\n    ^\n\
           hint: JSON has no comments\n",
@@ -135,8 +172,8 @@ const OTHER_FORMATS: &[Row] = &[
           hint: the input looks like UTF-16; JSON text is UTF-8\n",
     ),
     (
-        b"+1",
-        b"f:1:1: a value is expected (InvalidJsonValue)\n+1\n^\n",
+        b"\"\\u00x0\"",
+        b"f:1:6: the escape is not valid (InvalidEscape)\n\"\\u00x0\"\n     ^\n",
     ),
 ];
 

@@ -27,3 +27,8 @@ pub returns-in-Operand-clause-ok : goal.returns-in-Operand-clause-ok
 returns-in-Operand-clause-ok c =
     let w = c.args.word.now in
     on_ok_then c.take_operand.result (λ t. λ s h. followed _ s w _ (sym c.in-Operand.is ∙ c.role_of.ensures s h) (t s h)) c.take_operand.ensures.ok
+
+pub returns-in-Path-clause-ok : goal.returns-in-Path-clause-ok
+returns-in-Path-clause-ok c =
+    let w = c.args.word.now in
+    on_ok_then c.take_path.result (λ t. λ s h. followed _ s w _ (sym c.in-Path.is ∙ c.role_of.ensures s h) (t s h)) c.take_path.ensures.ok

@@ -1,0 +1,63 @@
+// The lines of a value that was changed.
+ghost use Rattle.std.specs.List.{flat_map};
+ghost use Rattle.mezdruk_files.specs.Outcomes.{line_in, lines_in};
+ghost use Rattle.mezdruk_files.specs.Writing.{WritesOutput};
+ghost use Rattle.json_value.specs.Denotes.{tree_of};
+ghost use Rattle.json_value.specs.Seen.{elements_seen, seen};
+
+use crate::job::{Job, write_line};
+use json_io::{Result, Sink};
+use json_layout::Style;
+use json_value::{ArrayView, Value, View};
+use std::alloc::Global;
+
+// Prints the line of the element.
+fn write_element<K: Sink>(
+    alloc: Global,
+    element: View<'_>,
+    style: Option<Style<'_>>,
+    raw: bool,
+    sink: &mut K,
+) -> Result<()>
+    ensures { WritesOutput (K.state sink.old) (K.state sink.new)
+        (line_in raw style.entry (seen element.entry)) result }
+{
+    let value = element.to_value(alloc)?;
+    write_line(alloc, &value, style, raw, sink)
+}
+
+// Prints the line of each element.
+fn write_each<K: Sink>(
+    alloc: Global,
+    array: ArrayView<'_>,
+    style: Option<Style<'_>>,
+    raw: bool,
+    sink: &mut K,
+) -> Result<()>
+    ensures { WritesOutput (K.state sink.old) (K.state sink.new)
+        (flat_map (line_in raw style.entry) (elements_seen array.entry)) result }
+{
+    'elements: for element in array.iter() {
+        write_element(alloc, element, style, raw, sink)?;
+    }
+    Ok(())
+}
+
+/// Prints the lines of the changed value that the job asks for.
+pub(crate) fn write_lines<C, K: Sink>(
+    alloc: Global,
+    value: &Value,
+    job: &Job<'_, C>,
+    sink: &mut K,
+) -> Result<()>
+    ensures { WritesOutput (K.state sink.old) (K.state sink.new)
+        (lines_in job.now.each job.now.raw job.now.style (tree_of value.now)) result }
+{
+    if !job.each {
+        return write_line(alloc, value, job.style, job.raw, sink);
+    }
+    match value.view().as_array() {
+        Some(array) => write_each(alloc, array, job.style, job.raw, sink),
+        None => Ok(()),
+    }
+}
