@@ -1,4 +1,4 @@
--- The patch from one tree to another, and what is told of two trees.
+-- The patch from one tree to another, and how two trees compare.
 use Rattle.std.specs.Prelude.{ℕ, Bool, true, false, cond, List, [], ◌∷◌, ◌++◌, Option, Some, None}
 use Rattle.json_grammar.specs.Tree.{Tree}
 use Rattle.json_layout.specs.Styles.{printed}
@@ -20,7 +20,7 @@ abbrev pub patch_line : Style → Option Tree → List ℕ
 patch_line style None = []
 patch_line style (Some patch) = printed style patch ++ 10 ∷ []
 
--- what is told of two trees that are the same or not, if this is the patch between them
+-- how two trees compare that are the same or not, if this is the patch between them
 abbrev pub comparison_of : Bool → Option Tree → Comparison
 comparison_of are_same None = NoMergePatch
 comparison_of are_same (Some patch) = cond are_same Same Differ

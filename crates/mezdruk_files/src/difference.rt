@@ -45,7 +45,7 @@ pub struct PatchStyle<'a> {
     pub style: Style<'a>,
 }
 
-/// What is told of two values.
+/// How two values compare.
 ///
 /// ```
 /// use mezdruk_files::Comparison;
@@ -101,8 +101,8 @@ fn compared(from: &Value, to: &Value) -> Comparison
 /// let style = Style::new(None, false).ok_or("no style")?;
 /// let asked = PatchStyle { form: PatchForm::MergePatch, style };
 /// let mut sink = VecSink::new(alloc);
-/// let told = print_difference(alloc, &from, &to, asked, &mut sink)?;
-/// assert_eq!(rt; told, Comparison::Differ);
+/// let comparison = print_difference(alloc, &from, &to, asked, &mut sink)?;
+/// assert_eq!(rt; comparison, Comparison::Differ);
 /// assert_eq!(rt; sink.as_slice(), b"true\n".as_slice());
 /// ```
 pub fn print_difference<K: Sink>(
@@ -112,7 +112,7 @@ pub fn print_difference<K: Sink>(
     asked: PatchStyle<'_>,
     sink: &mut K,
 ) -> Result<Comparison>
-    ensures reported { IfOk result (λ told. told
+    ensures reported { IfOk result (λ comparison. comparison
         ≡ comparison_of (same (tree_of from.now) (tree_of to.now))
         (patch_in_form asked.entry.form (tree_of from.now) (tree_of to.now))) }
     ensures ok { IfOk result (λ _. WritesOutput (K.state sink.old) (K.state sink.new) (patch_line

@@ -4,11 +4,11 @@ use json_text::{Result, Rules, VecSink};
 use mezdruk_files::{Comparison, PatchForm, PatchStyle, print_difference, read_value};
 use std::alloc::Global;
 
-// Two documents, what is told of them, and what is printed.
+// Two documents, how they compare, and what is printed.
 type Row = (&'static str, &'static str, Comparison, &'static str);
 
-// Prints the patch between two documents, and returns what is told of them.
-fn told_of(alloc: Global, row: &Row, form: PatchForm, sink: &mut VecSink) -> Result<Comparison> {
+// Prints the patch between two documents, and returns how they compare.
+fn compare(alloc: Global, row: &Row, form: PatchForm, sink: &mut VecSink) -> Result<Comparison> {
     let from = read_value(alloc, row.0.as_bytes(), Rules::usual())?;
     let to = read_value(alloc, row.1.as_bytes(), Rules::usual())?;
     match Style::new(None, false) {
@@ -21,8 +21,8 @@ fn told_of(alloc: Global, row: &Row, form: PatchForm, sink: &mut VecSink) -> Res
 fn all_hold(alloc: Global, form: PatchForm, rows: &[Row]) -> bool {
     for row in rows {
         let mut sink = VecSink::new(alloc);
-        let told = told_of(alloc, row, form, &mut sink);
-        let holds = matches!(told, Ok(told) if told == row.2)
+        let comparison = compare(alloc, row, form, &mut sink);
+        let holds = matches!(comparison, Ok(found) if found == row.2)
             && sink.as_slice() == row.3.as_bytes();
         if !holds {
             return false;
