@@ -1,4 +1,5 @@
 use Rattle.std.proofs.Common.{◌∷◌, Ok, Err, sym, subst, ap, ◌∙◌}
+use Rattle.std.proofs.lemmas.Result.{err_from_is_err_and}
 use Rattle.mezdruk_files.specs.Outcomes.{line_in}
 use Rattle.json_value.specs.Left.{elements_left}
 use Rattle.json_value.specs.Seen.{seen, elements_seen}
@@ -29,8 +30,9 @@ returns-in_err-write_element g c =
     let old = g.K.Sink.state c.args.sink.now in
     let now = g.K.Sink.state c.elements.sink in
     let next = g.K.Sink.state c.write_element.new.sink in
-    one_failed line all old (elements_left c.next.new.self) (seen c.in-Some.element) now next c.in_err-write_element.field-0.0
-    (subst (λ ts. WroteSoFar line all ts old now) c.in-Some.ensures.steps.0 c.elements.invariant) c.in_err-write_element.ensures
+    let q = err_from_is_err_and c.from_residual.result c.from_residual.ensures.1 in
+    rw (q.1, q.2) (one_failed line all old (elements_left c.next.new.self) (seen c.in-Some.element) now next _
+    (subst (λ ts. WroteSoFar line all ts old now) c.in-Some.ensures.steps.0 c.elements.invariant) c.in_err-write_element.ensures)
 
 pub returns : goal.returns
 returns g c =
