@@ -40,6 +40,7 @@
 
 #include <stddef.h>
 #include <stdint.h>
+#include <string.h>
 
 #ifdef __cplusplus
 extern "C" {
@@ -299,6 +300,32 @@ bool mezdruk_name(mezdruk_document *document, uint32_t node, size_t index, uint8
 mezdruk_status mezdruk_print(mezdruk_document *document, uint32_t node,
                              const mezdruk_options *options, mezdruk_buffer *output,
                              mezdruk_fault *fault);
+
+/* The value of the first member of an object that has this name, of `length` bytes of UTF-8. It
+ * takes a step for each member up to that one. Returns false, and writes nothing, if the node is no
+ * object or has no such member. This function is C over the calls above, and is tested, not proved. */
+static inline bool mezdruk_find(mezdruk_document *document, uint32_t node, const uint8_t *name,
+                                size_t length, uint32_t *value)
+{
+    mezdruk_node object;
+    const uint8_t *bytes;
+    size_t left, count;
+    uint32_t member = node + 1; /* the node of a name, which is before that of its value */
+
+    if (!mezdruk_read(document, node, &object) || object.kind != MEZDRUK_OBJECT)
+        return false;
+    for (left = object.length; left > 0; left--) {
+        if (!mezdruk_lend(document, member, &bytes, &count))
+            return false;
+        if (count == length && memcmp(bytes, name, length) == 0) {
+            *value = member + 1;
+            return true;
+        }
+        if (!mezdruk_after(document, member + 1, &member))
+            return false;
+    }
+    return false;
+}
 
 #ifdef __cplusplus
 }

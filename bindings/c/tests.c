@@ -62,6 +62,18 @@ static void try_name(mezdruk_document *document, uint32_t node, size_t index, ui
            && before_length == length, "the node of a name", (long)index);
 }
 
+/* A member is found by its name, or one before it that has the same name. */
+static void try_find(mezdruk_document *document, uint32_t node, uint32_t value)
+{
+    const uint8_t *name, *first;
+    size_t length, first_length;
+    uint32_t found = 0;
+    expect(mezdruk_lend(document, value - 1, &name, &length)
+           && mezdruk_find(document, node, name, length, &found) && found <= value
+           && mezdruk_lend(document, found - 1, &first, &first_length) && first_length == length
+           && !memcmp(first, name, length), "a member by its name", (long)value);
+}
+
 /* Reads each node below one, and returns how many there are. */
 static long walk(mezdruk_document *document, uint32_t node, int levels)
 {
@@ -81,6 +93,8 @@ static long walk(mezdruk_document *document, uint32_t node, int levels)
         if (shown.kind == MEZDRUK_OBJECT && mezdruk_member(document, node, i, &child)) {
             expect(child == next + 1, "the node of a member", (long)i);
             try_name(document, node, i, child);
+            if (i < 100)
+                try_find(document, node, child);
             count += 1 + walk(document, child, levels - 1);
             expect(mezdruk_after(document, child, &next), "what is after a member", (long)i);
         }
@@ -352,6 +366,32 @@ static void try_room(void)
     mezdruk_free_document(&document);
 }
 
+/* ---- members by their names ---- */
+
+static void try_members(void)
+{
+    static const struct {
+        const char *name;
+        uint32_t node, value;
+    } ROWS[] = {
+        {"a", 0, 2}, {"b", 0, 8}, {"", 0, 13}, {"c", 2, 4}, {"c", 0, 0}, {"A", 0, 0},
+        {"ab", 0, 0}, {"a", 8, 0}, {"a", 5, 0}, {"a", 6, 0}, {"a", UINT32_MAX, 0},
+    };
+    mezdruk_document document = MEZDRUK_DOCUMENT_INIT;
+    mezdruk_fault fault;
+    const char *text = "{\"a\":{\"c\":1},\"a\":2,\"b\":[\"a\"],\"\\u0000\":3,\"\":4}";
+    size_t i;
+    expect(mezdruk_parse((const uint8_t *)text, strlen(text), &PLAIN, &document, &fault)
+           == MEZDRUK_OK, "an object", 0);
+    for (i = 0; i < sizeof ROWS / sizeof *ROWS; i++) {
+        uint32_t value = 0;
+        bool found = mezdruk_find(&document, ROWS[i].node, (const uint8_t *)ROWS[i].name,
+                                  strlen(ROWS[i].name), &value);
+        expect(found == (ROWS[i].value != 0) && value == ROWS[i].value, "a name", (long)i);
+    }
+    mezdruk_free_document(&document);
+}
+
 /* ---- names of codes ---- */
 
 static void try_codes(void)
@@ -431,6 +471,7 @@ int main(int count, char **arguments)
     try_options();
     try_reals();
     try_room();
+    try_members();
     try_codes();
     printf("%ld damaged texts\n", try_damaged());
     printf("%ld random texts\n", try_random(20000));

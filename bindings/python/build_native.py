@@ -13,6 +13,7 @@ def declarations():
     with open(os.path.join(here, "mezdruk.h"), encoding="utf-8") as header:
         text = header.read()
     text = re.sub(r"/\*.*?\*/", "", text, flags=re.S)
+    text = re.sub(r"^static inline .*?^}$", "", text, flags=re.S | re.M)
     text = re.sub(r"#ifdef __cplusplus\n.*?#e(lse|ndif)\n", "", text, flags=re.S)
     text = re.sub(r"^#.*$", "", text, flags=re.M)
     return text
