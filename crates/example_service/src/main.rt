@@ -14,11 +14,11 @@ use std::io::Write;
 // The document before the first request.
 const DOCUMENT: &str = r#"{"port": 80, "hosts": ["a.example"]}"#;
 
-// The most bytes of a line. A longer one gets an error as its reply.
-const MAX_LINE_BYTES: usize = 1 << 20;
+// The most bytes of a line. A longer line gets an error as its reply.
+const MAX_LINE_BYTES: usize = 1_048_576;
 
-// Serves a line, and sends the reply, if there is one.
-fn answer<W: Write>(
+// Serves a line, and sends the reply if there is one: a notification has none.
+fn serve_line<W: Write>(
     alloc: Global,
     service: &mut Service,
     line: Line<'_>,
@@ -33,13 +33,13 @@ fn answer<W: Write>(
     Ok(())
 }
 
-// Serves the lines of the source. The loop is proved to end, so it has a bound, as high as can be.
-fn serve<S: Source, W: Write>(alloc: Global, source: &mut S, out: &mut W) -> Result<()> {
+// Serves all lines of the source. The loop has a bound, since it is proved to end.
+fn serve_lines<S: Source, W: Write>(alloc: Global, source: &mut S, out: &mut W) -> Result<()> {
     let mut service = Service::with_document(from_str::<Value>(alloc, DOCUMENT)?);
     let mut reader = LineReader::new(alloc, MAX_LINE_BYTES)?;
     for _ in 0..u64::MAX {
         match reader.next_line(source) {
-            Ok(Some(line)) => answer(alloc, &mut service, line, out)?,
+            Ok(Some(line)) => serve_line(alloc, &mut service, line, out)?,
             Ok(None) => break,
             Err(error) => return Err(error.into()),
         }
@@ -48,6 +48,6 @@ fn serve<S: Source, W: Write>(alloc: Global, source: &mut S, out: &mut W) -> Res
 }
 
 fn main(rt: HostRuntime) -> Result<()> {
-    let mut source = StdSource::new(rt.stdin());
-    serve(rt.alloc(), &mut source, &mut rt.stdout())
+    let (mut source, mut out) = (StdSource::new(rt.stdin()), rt.stdout());
+    serve_lines(rt.alloc(), &mut source, &mut out)
 }
