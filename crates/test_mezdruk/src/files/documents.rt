@@ -106,7 +106,8 @@ const TWO_REPORTED: Outcome<'static> = Outcome {
     output: b"1\n2\n",
     reports: b"b:2:2: the number is not complete or has a leading zero (InvalidNumber)\n\
         01]\n ^\nhint: a number has no leading zeros\n\
-        d:1:1: the input ends before its value does (EofWhileParsing)\n\n^\n",
+        d:1:1: the input ends before its value does (EofWhileParsing)\n\n^\n\
+        hint: the input is empty\n",
     status: 1,
 };
 
