@@ -70,8 +70,9 @@ setting_in w =
     (cond (bytes_eq w (codes "--merge")) (Some setting.MergePatch)
     (cond (bytes_eq w (codes "--verbose") || bytes_eq w (codes "-v")) (Some setting.Verbose)
     (cond (bytes_eq w (codes "-i") || bytes_eq w (codes "--in-place")) (Some setting.InPlace)
+    (cond (bytes_eq w (codes "--bom")) (Some setting.Bom)
     (cond (bytes_eq w (codes "--lines")) (Some (setting.Input Lines))
-    (cond (bytes_eq w (codes "--stream")) (Some (setting.Input Stream)) (setting_with_value w)))))))))
+    (cond (bytes_eq w (codes "--stream")) (Some (setting.Input Stream)) (setting_with_value w))))))))))
 
 -- the options that each command has
 abbrev pub takes : Verb → Setting → Bool
@@ -131,7 +132,7 @@ is_standard_input w = bytes_eq w (codes "-")
 
 -- no option
 abbrev pub no_settings : Settings
-no_settings = record { layout = None; sorted = false; unique = false; depth = None; raw = false; string_value = false; merge_patch = false; verbose = false; in_place = false; input = None }
+no_settings = record { layout = None; sorted = false; unique = false; depth = None; raw = false; string_value = false; merge_patch = false; verbose = false; in_place = false; bom = false; input = None }
 
 -- the settings with one more, unless there is one of its kind
 abbrev pub with_setting : Settings → Setting → Option Settings
@@ -144,6 +145,7 @@ with_setting s setting.StringValue = cond s.string_value None (Some (record s { 
 with_setting s setting.MergePatch = cond s.merge_patch None (Some (record s { merge_patch = true }))
 with_setting s setting.Verbose = cond s.verbose None (Some (record s { verbose = true }))
 with_setting s setting.InPlace = cond s.in_place None (Some (record s { in_place = true }))
+with_setting s setting.Bom = cond s.bom None (Some (record s { bom = true }))
 with_setting s (setting.Input f) = cond (is_some s.input) None (Some (record s { input = Some f }))
 
 -- an operand is read as its kind, and a value as a string where that is asked for

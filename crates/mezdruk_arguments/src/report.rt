@@ -14,7 +14,7 @@ const COMMANDS: [&str; 14] = [
 ];
 
 /// The options.
-const OPTIONS: [&str; 17] = [
+const OPTIONS: [&str; 18] = [
     "--compact",
     "--pretty",
     "--indent=",
@@ -29,6 +29,7 @@ const OPTIONS: [&str; 17] = [
     "--path=",
     "--lines",
     "--stream",
+    "--bom",
     "--edits=",
     "--patch=",
     "--merge=",

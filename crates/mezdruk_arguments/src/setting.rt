@@ -1,6 +1,7 @@
 // The options of the commands.
 ghost use Rattle.std.specs.Prelude.{◌≡◌, option_map};
 ghost use Rattle.mezdruk_arguments.specs.Arguments.{layout_in, setting_in, setting_with_value as value_setting, with_setting, no_settings, reads_stream as is_stream, rules_of_stream, kind_read};
+ghost use Rattle.mezdruk_arguments.specs.declared.setting.Setting.TheVariants as Setting;
 ghost use Rattle.json_command.specs.Options.{depth_in, width_in};
 
 use crate::operand::OperandKind;
@@ -64,6 +65,8 @@ pub enum Setting {
     Verbose,
     /// Files changed in place (`--in-place`).
     InPlace,
+    /// A byte order mark at the beginning of the input skipped (`--bom`).
+    Bom,
     /// Input that contains several documents (`--lines` or `--stream`).
     Input(RequestedInput),
 }
@@ -104,6 +107,8 @@ pub struct Settings {
     pub verbose: bool,
     /// Whether files are changed in place.
     pub in_place: bool,
+    /// Whether a byte order mark at the beginning of each input is skipped.
+    pub bom: bool,
     /// How each input contains several documents; `None` if it is one document.
     pub input: Option<RequestedInput>,
 }
@@ -164,6 +169,7 @@ impl Setting {
             "--merge" => Some(Setting::MergePatch),
             "--verbose" | "-v" => Some(Setting::Verbose),
             "-i" | "--in-place" => Some(Setting::InPlace),
+            "--bom" => Some(Setting::Bom),
             "--lines" => Some(Setting::Input(RequestedInput::Lines)),
             "--stream" => Some(Setting::Input(RequestedInput::Stream)),
             _ => setting_with_value(word),
@@ -186,8 +192,22 @@ impl Settings {
             merge_patch: false,
             verbose: false,
             in_place: false,
+            bom: false,
             input: None,
         }
+    }
+
+    // Returns the settings with a layout, or `None` if an earlier option asks for one.
+    fn with_layout(self, layout: RequestedLayout) -> Option<Settings>
+        ensures { result ≡ with_setting self (Setting.Layout layout) }
+    {
+        if self.layout.is_some() {
+            return None;
+        }
+        Some(Settings {
+            layout: Some(layout),
+            ..self
+        })
     }
 
     /// Returns the settings with one more option, or `None` if an earlier one asks for the same.
@@ -195,10 +215,7 @@ impl Settings {
         ensures { result ≡ with_setting self setting }
     {
         match setting {
-            Setting::Layout(layout) if self.layout.is_none() => Some(Settings {
-                layout: Some(layout),
-                ..self
-            }),
+            Setting::Layout(layout) => self.with_layout(layout),
             Setting::SortKeys if !self.sorted => Some(Settings {
                 sorted: true,
                 ..self
@@ -228,6 +245,7 @@ impl Settings {
                 in_place: true,
                 ..self
             }),
+            Setting::Bom if !self.bom => Some(Settings { bom: true, ..self }),
             Setting::Input(form) if self.input.is_none() => Some(Settings {
                 input: Some(form),
                 ..self

@@ -2,7 +2,9 @@
 
 use crate::compare::{compare, overlay};
 use crate::files::{ReadFault, read_bytes, report_unread};
+use crate::inlet::Reading;
 use crate::missing::Target;
+use crate::progress::can_be_shown;
 use crate::run::{Work, run_files};
 use json_command::{Console, Status, report_text};
 use json_data::from_value;
@@ -40,6 +42,15 @@ impl<'a> Task<'a> {
         Task { each: true, ..self }
     }
 
+    /// Returns how its inputs are read.
+    pub fn reading(self, rt: &HostRuntime) -> Reading {
+        let prints = self.settings.style_for(self.verb).is_some() && !self.settings.in_place;
+        Reading {
+            skips_mark: self.settings.bom,
+            shows_progress: can_be_shown(rt, prints),
+        }
+    }
+
     /// Makes a change of each document, where it leads in them, and returns the status.
     pub fn run<C: ValueChange + Copy + Drop>(
         self,
@@ -60,6 +71,7 @@ impl<'a> Task<'a> {
         let work = Work {
             job,
             target,
+            reading: self.reading(rt),
             in_place: self.settings.in_place,
             keeps_layout: self.settings.keeps_layout(self.verb),
             changed: Cell::new(0),
@@ -152,7 +164,7 @@ fn read_file(
     kind: OperandKind,
     file: &str,
 ) -> Result<Value, u8> {
-    let bytes = match read_bytes(rt, console, file) {
+    let bytes = match read_bytes(rt, file, Reading::plain()) {
         Ok(bytes) => bytes,
         Err(fault) => return Err(report_unread_operand(rt, console, file, fault)),
     };

@@ -5,7 +5,7 @@ use crate::files::{read_document, report_unread};
 use crate::missing::Target;
 use crate::outlet::Outlet;
 use json_command::{Console, Status, report, report_text};
-use json_text::{Error, Rules, StdSink};
+use json_text::{Error, StdSink};
 use json_value::Value;
 use mezdruk_files::{
     Comparison, MergeInTurn, PatchForm, PatchStyle, input_report, print_difference, read_value,
@@ -17,14 +17,14 @@ const DIFFER: u8 = 1;
 
 // What the options ask for.
 #[derive(Clone, Copy)]
-struct Asked {
-    rules: Rules,
+struct Asked<'a> {
+    task: Task<'a>,
     patch: PatchStyle<'static>,
 }
 
-impl Asked {
+impl<'a> Asked<'a> {
     // Returns what the options ask for, or `None` if the command prints nothing.
-    fn of(task: Task<'_>) -> Option<Asked> {
+    fn of(task: Task<'a>) -> Option<Asked<'a>> {
         let form = if task.settings.merge_patch {
             PatchForm::MergePatch
         } else {
@@ -32,7 +32,7 @@ impl Asked {
         };
         let style = task.settings.style_for(task.verb)?;
         Some(Asked {
-            rules: task.settings.rules(),
+            task,
             patch: PatchStyle { form, style },
         })
     }
@@ -65,9 +65,9 @@ fn read_file(
     rt: &HostRuntime,
     console: &mut Console,
     file: &str,
-    rules: Rules,
+    task: Task<'_>,
 ) -> Result<Value, u8> {
-    let document = match read_document(rt, console, file) {
+    let document = match read_document(rt, file, task.reading(rt)) {
         Ok(document) => document,
         Err(fault) => return Err(report_unread(rt, console, file, fault)),
     };
@@ -75,7 +75,7 @@ fn read_file(
         Some(bytes) => bytes,
         None => b"",
     };
-    match read_value(rt.alloc(), bytes, rules) {
+    match read_value(rt.alloc(), bytes, task.settings.rules()) {
         Ok(value) => Ok(value),
         Err(error) => {
             let name = document.name.as_str();
@@ -104,9 +104,9 @@ fn print_patch(
     console: &mut Console,
     from: &Value,
     file: &str,
-    asked: Asked,
+    asked: Asked<'_>,
 ) -> u8 {
-    let to = match read_file(rt, console, file, asked.rules) {
+    let to = match read_file(rt, console, file, asked.task) {
         Ok(to) => to,
         Err(status) => return status,
     };
@@ -132,7 +132,7 @@ fn print_patches(
     console: &mut Console,
     from: &Value,
     files: &[&str],
-    asked: Asked,
+    asked: Asked<'_>,
 ) -> u8 {
     let mut greatest = 0;
     for file in files {
@@ -150,7 +150,7 @@ pub fn compare(rt: &HostRuntime, console: &mut Console, task: Task<'_>, old: &st
     let Some(asked) = Asked::of(task) else {
         return Status::InvalidArguments.number();
     };
-    let from = match read_file(rt, console, old, asked.rules) {
+    let from = match read_file(rt, console, old, task) {
         Ok(from) => from,
         Err(status) => return status,
     };
@@ -165,11 +165,11 @@ fn read_files(
     rt: &HostRuntime,
     console: &mut Console,
     files: &[&str],
-    rules: Rules,
+    task: Task<'_>,
 ) -> Result<Vec<Value>, u8> {
     let mut values = Vec::new(rt.alloc());
     for file in files {
-        let value = read_file(rt, console, file, rules)?;
+        let value = read_file(rt, console, file, task)?;
         if values.push(value).is_err() {
             return Err(Status::OutOfMemory.number());
         }
@@ -181,7 +181,7 @@ fn read_files(
 /// status.
 pub fn overlay(rt: &HostRuntime, console: &mut Console, task: Task<'_>) -> u8 {
     let (first, later) = task.files.split_at(task.files.len().min(1));
-    let patches = match read_files(rt, console, later, task.settings.rules()) {
+    let patches = match read_files(rt, console, later, task) {
         Ok(patches) => patches,
         Err(status) => return status,
     };

@@ -1,5 +1,6 @@
 // Documents from files and from standard input.
 
+use crate::inlet::{Inlet, Reading};
 use json_command::{Console, Status, report_text};
 use json_text::{ErrorCode, Source, StdSource, read_all};
 use mezdruk_files::{NamedDocument, file_report};
@@ -52,8 +53,8 @@ fn read_source<S: Source>(alloc: Global, source: &mut S) -> Result<Vec<u8>, Read
     }
 }
 
-// Opens a file that is no folder.
-fn open_file(rt: &HostRuntime, file: &str) -> Result<File, ReadFault> {
+/// Opens a file that is no folder.
+pub fn open_file(rt: &HostRuntime, file: &str) -> Result<File, ReadFault> {
     if file.is_empty() {
         return Err(ReadFault::Refused("the name of the file is empty"));
     }
@@ -74,20 +75,13 @@ pub fn refuse_irregular(rt: &HostRuntime, file: &str) -> Option<ReadFault> {
 }
 
 /// Reads the bytes of a file, or those of standard input for `-`.
-pub fn read_bytes(
-    rt: &HostRuntime,
-    console: &mut Console,
-    file: &str,
-) -> Result<Vec<u8>, ReadFault> {
-    if file == "-" {
-        return read_source(rt.alloc(), &mut console.source);
-    }
-    let opened = open_file(rt, file)?;
-    read_source(rt.alloc(), &mut StdSource::new(opened))
+pub fn read_bytes(rt: &HostRuntime, file: &str, reading: Reading) -> Result<Vec<u8>, ReadFault> {
+    let inlet = Inlet::open(rt, file, reading)?;
+    read_source(rt.alloc(), &mut StdSource::new(inlet))
 }
 
-// Returns the name by which errors of a file are reported.
-fn shown_name(file: &str) -> &str {
+/// Returns the name by which errors of a file are reported.
+pub fn shown_name(file: &str) -> &str {
     match file {
         "-" => STANDARD_INPUT,
         "" => "''",
@@ -98,10 +92,10 @@ fn shown_name(file: &str) -> &str {
 /// Reads the document of a file, or that of standard input for `-`.
 pub fn read_document(
     rt: &HostRuntime,
-    console: &mut Console,
     file: &str,
+    reading: Reading,
 ) -> Result<NamedDocument, ReadFault> {
-    let bytes = read_bytes(rt, console, file)?;
+    let bytes = read_bytes(rt, file, reading)?;
     match String::from_str(rt.alloc(), shown_name(file)) {
         Ok(name) => Ok(NamedDocument {
             name,

@@ -10,8 +10,10 @@ mod changes;
 mod compare;
 mod files;
 mod in_place;
+mod inlet;
 mod missing;
 mod outlet;
+mod progress;
 mod run;
 
 use crate::run::run;

@@ -1,15 +1,19 @@
 // What a command does with each file.
 
 use crate::changes::{carry_out, report_arguments};
-use crate::files::{read_document, reason_of, refuse_irregular, report_file, report_unread};
+use crate::files::{
+    read_document, reason_of, refuse_irregular, report_file, report_unread, shown_name,
+};
 use crate::in_place::replace_content;
+use crate::inlet::{Inlet, Reading};
 use crate::missing::{Target, hint_of_target};
 use crate::outlet::Outlet;
 use json_command::{Console, Status, report_text, write_text};
-use json_text::{StdSink, VecSink, Words};
+use json_text::{StdSink, StdSource, VecSink, Words};
 use mezdruk_arguments::{help_asked, read_arguments};
 use mezdruk_files::{
-    EditedText, InputForm, Job, NamedDocument, ValueChange, edit_document, print_documents,
+    EditedText, InputForm, Job, NamedDocument, NamedSource, ValueChange, edit_document,
+    print_documents, print_lines,
 };
 use mezdruk_help::ABOUT_MEZDRUK;
 use mezdruk_programs::run_named;
@@ -86,6 +90,8 @@ pub struct Work<'a, C> {
     pub job: Job<'static, C>,
     /// Where the command leads in them.
     pub target: Target<'a>,
+    /// How it is read.
+    pub reading: Reading,
     /// Whether the file is written in place.
     pub in_place: bool,
     /// Whether it is written in the layout that it has.
@@ -181,6 +187,25 @@ fn write_in_place<C: ValueChange + Copy>(
     }
 }
 
+// Prints the changed document of each line as the lines come, and returns the status.
+fn print_each_line<C: ValueChange>(
+    rt: &HostRuntime,
+    console: &mut Console,
+    file: &str,
+    work: &Work<'_, C>,
+) -> u8 {
+    let inlet = match Inlet::open(rt, file, work.reading) {
+        Ok(inlet) => inlet,
+        Err(fault) => return report_unread(rt, console, file, fault),
+    };
+    let mut input = NamedSource {
+        name: shown_name(file),
+        source: StdSource::new(inlet),
+    };
+    let (sink, errs) = (&mut console.sink, &mut console.errs);
+    print_lines(rt.alloc(), &mut input, &work.job, sink, errs)
+}
+
 // Does what is asked for with one file, and returns the status.
 fn run_file<C: ValueChange + Copy>(
     rt: &HostRuntime,
@@ -192,8 +217,10 @@ fn run_file<C: ValueChange + Copy>(
         if let Some(fault) = refuse_irregular(rt, file) {
             return report_unread(rt, console, file, fault);
         }
+    } else if work.job.input == InputForm::Lines {
+        return print_each_line(rt, console, file, work);
     }
-    match read_document(rt, console, file) {
+    match read_document(rt, file, work.reading) {
         Ok(document) if work.in_place => write_in_place(rt, console, document, work),
         Ok(document) => print_document(rt, console, document, work),
         Err(fault) => report_unread(rt, console, file, fault),

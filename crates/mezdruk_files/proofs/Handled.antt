@@ -172,7 +172,7 @@ part_then whole Has p ps [] ys h k = absurd (true_false h)
 part_then whole Has p ps (o ∷ []) ys h k = (h.0, k)
 part_then whole Has p ps (o ∷ x ∷ xs) ys h k = absurd h.1
 
-none_first : (Has : DocumentPart → PartOutcome → Type 0) (ps : List DocumentPart) → PartsHave false Has ps []
+pub none_first : (Has : DocumentPart → PartOutcome → Type 0) (ps : List DocumentPart) → PartsHave false Has ps []
 none_first Has [] = tt
 none_first Has (p ∷ ps) = refl
 
@@ -181,28 +181,28 @@ part_first Has p ps [] h = refl
 part_first Has p ps (o ∷ []) h = (h.0, none_first Has ps)
 part_first Has p ps (o ∷ x ∷ xs) h = absurd h.1
 
--- with any outcomes of the lines that are left, the outcomes so far are outcomes of all lines
-abbrev pub LinesLeft : Task → List ℕ → List ℕ → ℕ → List ℕ → List PartOutcome → Type 0
-LinesLeft task name bytes n rest os =
-    (whole : Bool) (ps : List PartOutcome) → PartsHave whole (LineOutcome task) (line_parts name n (lines_of rest)) ps → PartsHave whole (LineOutcome task) (line_parts name 0 (lines_of bytes)) (os ++ ps)
+-- with any outcomes of the lines that are left, the outcomes so far are outcomes of all lines, before which m precede
+abbrev pub LinesLeft : Task → List ℕ → ℕ → List ℕ → ℕ → List ℕ → List PartOutcome → Type 0
+LinesLeft task name m bytes n rest os =
+    (whole : Bool) (ps : List PartOutcome) → PartsHave whole (LineOutcome task) (line_parts name n (lines_of rest)) ps → PartsHave whole (LineOutcome task) (line_parts name m (lines_of bytes)) (os ++ ps)
 
-module _ (task : Task) (name bytes : List ℕ) where
-  pub lines_none : LinesLeft task name bytes 0 bytes []
+module _ (task : Task) (name : List ℕ) (m : ℕ) (bytes : List ℕ) where
+  pub lines_none : LinesLeft task name m bytes m bytes []
   lines_none whole ps h = h
 
-  pub lines_more : (n : ℕ) (rest line later : List ℕ) → lines_of rest ≡ line ∷ lines_of later → (os qs : List PartOutcome) → LinesLeft task name bytes n rest os → PartsHave true (LineOutcome task) (line_part name n line ∷ []) qs → LinesLeft task name bytes (n + 1) later (os ++ qs)
+  pub lines_more : (n : ℕ) (rest line later : List ℕ) → lines_of rest ≡ line ∷ lines_of later → (os qs : List PartOutcome) → LinesLeft task name m bytes n rest os → PartsHave true (LineOutcome task) (line_part name n line ∷ []) qs → LinesLeft task name m bytes (n + 1) later (os ++ qs)
   lines_more n rest line later is os qs left h whole ps k =
-      subst (PartsHave whole (LineOutcome task) (line_parts name 0 (lines_of bytes))) (sym (append_assoc os qs ps))
+      subst (PartsHave whole (LineOutcome task) (line_parts name m (lines_of bytes))) (sym (append_assoc os qs ps))
       (left whole (qs ++ ps) (subst (λ ls. PartsHave whole (LineOutcome task) (line_parts name n ls) (qs ++ ps)) (sym is)
       (part_then whole (LineOutcome task) (line_part name n line) (line_parts name (n + 1) (lines_of later)) qs ps h k)))
 
-  pub lines_stop : (n : ℕ) (rest line later : List ℕ) → lines_of rest ≡ line ∷ lines_of later → (os qs : List PartOutcome) → LinesLeft task name bytes n rest os → PartsHave false (LineOutcome task) (line_part name n line ∷ []) qs → PartsHave false (LineOutcome task) (line_parts name 0 (lines_of bytes)) (os ++ qs)
+  pub lines_stop : (n : ℕ) (rest line later : List ℕ) → lines_of rest ≡ line ∷ lines_of later → (os qs : List PartOutcome) → LinesLeft task name m bytes n rest os → PartsHave false (LineOutcome task) (line_part name n line ∷ []) qs → PartsHave false (LineOutcome task) (line_parts name m (lines_of bytes)) (os ++ qs)
   lines_stop n rest line later is os qs left h =
       left false qs (subst (λ ls. PartsHave false (LineOutcome task) (line_parts name n ls) qs) (sym is) (part_first (LineOutcome task) (line_part name n line) (line_parts name (n + 1) (lines_of later)) qs h))
 
-  pub lines_all : (n : ℕ) (rest : List ℕ) → length rest ≡ 0 → (os : List PartOutcome) → LinesLeft task name bytes n rest os → PartsHave true (LineOutcome task) (line_parts name 0 (lines_of bytes)) os
+  pub lines_all : (n : ℕ) (rest : List ℕ) → length rest ≡ 0 → (os : List PartOutcome) → LinesLeft task name m bytes n rest os → PartsHave true (LineOutcome task) (line_parts name m (lines_of bytes)) os
   lines_all n rest is os left =
-      subst (PartsHave true (LineOutcome task) (line_parts name 0 (lines_of bytes))) (append-nil os) (left true [] (subst (λ r. PartsHave true (LineOutcome task) (line_parts name n (lines_of r)) []) (sym (nil_from_length rest is)) tt))
+      subst (PartsHave true (LineOutcome task) (line_parts name m (lines_of bytes))) (append-nil os) (left true [] (subst (λ r. PartsHave true (LineOutcome task) (line_parts name n (lines_of r)) []) (sym (nil_from_length rest is)) tt))
 
 -- ---- documents
 

@@ -9,6 +9,8 @@ use Rattle.json_text.specs.Faults.{ValueFaultFrom}
 use Rattle.json_io.specs.Outside.{SinkState}
 use Rattle.json_io.specs.declared.error.Error.{Error}
 use Rattle.json_command.specs.Input.{max_bytes}
+use Rattle.json_command.specs.Printing.{Prints}
+use Rattle.std.specs.Prelude.{Result, OnOk, IfErr}
 use Rattle.mezdruk_files.specs.declared.change_error.ChangeError.{ChangeError}
 use Rattle.mezdruk_files.specs.declared.document_error.DocumentError.TheVariants.{Input, Change}
 use Rattle.mezdruk_files.specs.declared.run.DocumentTally.{DocumentTally}
@@ -16,7 +18,8 @@ use Rattle.mezdruk_files.specs.Outcomes.{Task, PartOutcome, Printed, Refused, Pa
 use Rattle.mezdruk_files.specs.Parts.{DocumentPart, whole_part, value_part}
 use Rattle.mezdruk_files.specs.Running.{PrintsTree, PrintingStops, ReportsError, ReportingFails, Handles, StopsRunning}
 use Rattle.mezdruk_files.specs.Streams.{ReadsAt, StreamHas, ends, stops, fails, more, ValuePlace, ValueHas, ValuesHave, OutcomeIsNoText, TextFault}
-use Rattle.mezdruk_files.specs.Writing.{WritingFails}
+use Rattle.mezdruk_files.specs.Writing.{WritingFails, SendsBlock}
+use Rattle.mezdruk_files.proofs.Blocks.{some_same, HandlesHeld, held_none, held_then, held_stops, held_sent, held_unsent, held_done, held_fails}
 use Rattle.mezdruk_files.proofs.FirstLines.{ws_at}
 use Rattle.mezdruk_files.proofs.Handled.{stops_none, handles_line, handles_error, Handles-as, StopsRunning-as}
 use Rattle.mezdruk_files.proofs.TextWriting.{muted_nil}
@@ -80,6 +83,15 @@ module _ (task : Task) (name b : List ℕ) where
   pub values_stop : (i n : ℕ) (os qs : List PartOutcome) → ValuesLeft task name b i n os → StreamHas task name b false i n qs → StreamHas task name b false 0 0 (os ++ qs)
   values_stop i n os qs left h = left false qs h
 
+  pub values_now : (i n : ℕ) (os : List PartOutcome) → ValuesLeft task name b i n os → StreamHas task name b false 0 0 os
+  values_now i n os left = subst (StreamHas task name b false 0 0) (append-nil os) (left false [] (stops refl))
+
+  pub values_weaker : (i n : ℕ) (os : List PartOutcome) → StreamHas task name b true i n os → StreamHas task name b false i n os
+  values_weaker i n os (ends space) = ends space
+  values_weaker i n os (stops first) = stops refl
+  values_weaker i n os (fails e report some fault is) = fails e report some fault is
+  values_weaker i n os (more j tree outcome later reads has rest) = more j tree outcome later reads has (values_weaker j (n + 1) later rest)
+
   pub values_all : (i n : ℕ) → ws (drop i b) → (os : List PartOutcome) → ValuesLeft task name b i n os → StreamHas task name b true 0 0 os
   values_all i n space os left = subst (StreamHas task name b true 0 0) (append-nil os) (left true [] (ends space))
 
@@ -116,3 +128,66 @@ more_left b x i k is order low stop space =
     let here : IsWhitespace (get_or (drop i b) (k - i) 0) = ws_at (drop i b) (k - i) space in_rest in
     let there : get_or (drop i b) (k - i) 0 ≡ get_or x k 0 = get_or-drop i b (k - i) 0 ∙ ap (λ n. get_or b n 0) at ∙ ap (λ y. get_or y k 0) (sym is) in
     stop within (subst IsWhitespace there here)
+
+-- ---- values that are written in blocks
+
+-- the values so far were handled, and the block has what is not written yet
+pub record StreamSoFar (task : Task) (name b : List ℕ) (i n : ℕ) (t u : DocumentTally) (s s' block e e' : SinkState) : Type 0 where
+  pub printed : List ℕ
+  pub has : block.gained ≡ Some printed
+  pub held : HandlesHeld (ValuesLeft task name b i n) t u s s' printed e e'
+
+module _ (task : Task) (name b : List ℕ) (t : DocumentTally) (s e : SinkState) where
+  pub stream_none : (block : SinkState) → block.gained ≡ Some [] → StreamSoFar task name b 0 0 t t s s block e e
+  stream_none block has = record { printed = []; has = has; held = held_none (ValuesLeft task name b 0 0) t s e (values_none task name b) }
+
+  module _ (i n : ℕ) (u v : DocumentTally) (s' s'' block block' e' e'' : SinkState) (printed : List ℕ) (so_far : StreamSoFar task name b i n t u s s' block e e') (has : block'.gained ≡ Some printed) where
+    -- one value more
+    held_next : (j : ℕ) → Handles (ValueHas task (record { name = name; text = b; offset = i; number = n }) (Some j)) u v block block' e' e'' → HandlesHeld (ValuesLeft task name b j (n + 1)) t v s s' printed e e''
+    held_next j h =
+        held_then (ValuesLeft task name b i n) t u s s' e e' so_far.printed so_far.held (ValueHas task (record { name = name; text = b; offset = i; number = n }) (Some j)) (ValuesLeft task name b j (n + 1)) v block block' e'' so_far.has (values_more task name b i n j) printed has h
+
+    pub stream_next : (j : ℕ) (left : SinkState) → Handles (ValueHas task (record { name = name; text = b; offset = i; number = n }) (Some j)) u v block block' e' e'' → SendsBlock s' s'' block' left → StreamSoFar task name b j (n + 1) t v s s'' left e e''
+    stream_next j left h (inl (same, kept)) =
+        subst (λ (x : SinkState). StreamSoFar task name b j (n + 1) t v s x left e e'') (sym same)
+        (subst (λ (x : SinkState). StreamSoFar task name b j (n + 1) t v s s' x e e'') (sym kept) (record { printed = printed; has = has; held = held_next j h }))
+    stream_next j left h (inr (text, is, prints, none, calm)) =
+        record {
+          printed = [];
+          has = none;
+          held = held_sent (ValuesLeft task name b j (n + 1)) t v s s' e e'' printed (held_next j h) s'' (subst (λ x. Prints s' s'' x (Ok tt)) (some_same text printed (sym is ∙ has)) prints);
+        }
+
+    -- the block was not written
+    pub stream_unsent : (j : ℕ) (text : List ℕ) (error : Error) → Handles (ValueHas task (record { name = name; text = b; offset = i; number = n }) (Some j)) u v block block' e' e'' → block'.gained ≡ Some text → Prints s' s'' text (Err error)
+        → StopsRunning (StreamHas task name b false 0 0) t v s s'' e e'' error
+    stream_unsent j text error h is prints =
+        held_unsent (ValuesLeft task name b j (n + 1)) t v s s' e e'' printed (held_next j h) (StreamHas task name b false 0 0) s'' error (values_now task name b j (n + 1))
+        (subst (λ x. Prints s' s'' x (Err error)) (some_same text printed (sym is ∙ has)) prints)
+
+    -- memory ran out
+    pub stream_stops : (error : Error) → block'.faults ≡ 0 → StopsRunning (StreamHas task name b false i n) u v block block' e' e'' error → StopsRunning (StreamHas task name b false 0 0) t v s s' e e'' error
+    stream_stops error calm h =
+        held_stops (ValuesLeft task name b i n) t u s s' e e' so_far.printed so_far.held (StreamHas task name b false i n) (StreamHas task name b false 0 0) v block block' e'' so_far.has (values_stop task name b i n) error calm h
+
+    -- no value can be read
+    held_last : ¬ (ws (drop i b)) → Handles (ValueHas task (record { name = name; text = b; offset = i; number = n }) None) u v block block' e' e'' → HandlesHeld (StreamHas task name b true 0 0) t v s s' printed e e''
+    held_last some h =
+        held_then (ValuesLeft task name b i n) t u s s' e e' so_far.printed so_far.held (ValueHas task (record { name = name; text = b; offset = i; number = n }) None) (StreamHas task name b true 0 0) v block block' e'' so_far.has (values_fail task name b i n some) printed has h
+
+    pub stream_fails : (r : Result (Unit {0}) Error) → ¬ (ws (drop i b)) → Handles (ValueHas task (record { name = name; text = b; offset = i; number = n }) None) u v block block' e' e'' → Prints s' s'' printed r → OnOk r (Handles (StreamHas task name b true 0 0) t v s s'' e e'')
+    stream_fails r some h prints = held_done (StreamHas task name b true 0 0) t v s s' e e'' printed (held_last some h) (StreamHas task name b true 0 0) s'' r (λ os k. k) prints
+
+    pub stream_fails_unsent : (r : Result (Unit {0}) Error) → ¬ (ws (drop i b)) → Handles (ValueHas task (record { name = name; text = b; offset = i; number = n }) None) u v block block' e' e'' → Prints s' s'' printed r → IfErr r (StopsRunning (StreamHas task name b false 0 0) t v s s'' e e'')
+    stream_fails_unsent r some h prints = held_fails (StreamHas task name b true 0 0) t v s s' e e'' printed (held_last some h) (StreamHas task name b false 0 0) s'' r (values_weaker task name b 0 0) prints
+
+  module _ (i n : ℕ) (u : DocumentTally) (s' s'' block e' : SinkState) (printed : List ℕ) (so_far : StreamSoFar task name b i n t u s s' block e e') (has : block.gained ≡ Some printed) (space : ws (drop i b)) where
+    last_text : (r : Result (Unit {0}) Error) → Prints s' s'' printed r → Prints s' s'' so_far.printed r
+    last_text r prints = subst (λ x. Prints s' s'' x r) (some_same printed so_far.printed (sym has ∙ so_far.has)) prints
+
+    pub stream_ends : (r : Result (Unit {0}) Error) → Prints s' s'' printed r → OnOk r (Handles (StreamHas task name b true 0 0) t u s s'' e e')
+    stream_ends r prints = held_done (ValuesLeft task name b i n) t u s s' e e' so_far.printed so_far.held (StreamHas task name b true 0 0) s'' r (values_all task name b i n space) (last_text r prints)
+
+    pub stream_ends_unsent : (r : Result (Unit {0}) Error) → Prints s' s'' printed r → IfErr r (StopsRunning (StreamHas task name b false 0 0) t u s s'' e e')
+    stream_ends_unsent r prints =
+        held_fails (ValuesLeft task name b i n) t u s s' e e' so_far.printed so_far.held (StreamHas task name b false 0 0) s'' r (λ os k. values_weaker task name b 0 0 os (values_all task name b i n space os k)) (last_text r prints)

@@ -6,8 +6,12 @@ pub mod TextWriting
 pub mod Totals
 pub mod SmallStatuses
 pub mod Handled
+pub mod WholeLines
+pub mod Blocks
 pub mod ValueStreams
 pub mod HandledStreams
+pub mod HandledInputs
+pub mod Marks
 pub mod ValuePaths
 pub mod EachLine
 pub mod EditedTexts

@@ -40,7 +40,7 @@ outcome_small task part (Printed line) h = lit< tt
 outcome_small task part (Refused (Change e) report) h = lit< tt
 outcome_small task part (Refused (Input e) report) h = fault_small task.rules part.bytes e.code e.place h.0
 
-line_small : (task : Task) (part : DocumentPart) (o : PartOutcome) → LineOutcome task part o → outcome_status o < 5
+pub line_small : (task : Task) (part : DocumentPart) (o : PartOutcome) → LineOutcome task part o → outcome_status o < 5
 line_small task part o (inl blank) = subst (λ x. outcome_status x < 5) (sym blank.1) (lit< tt)
 line_small task part o (inr full) = outcome_small task part o full.1
 
@@ -51,10 +51,10 @@ unread_small part (Printed line) h = absurd h
 
 -- ---- of all
 
-max_small : (m n : ℕ) → m < 5 → n < 5 → max m n < 5
+pub max_small : (m n : ℕ) → m < 5 → n < 5 → max m n < 5
 max_small m n l k = grind arith
 
-parts_small : (whole : Bool) (Has : DocumentPart → PartOutcome → Type 0) (parts : List DocumentPart) (os : List PartOutcome) → ((part : DocumentPart) (o : PartOutcome) → Has part o → outcome_status o < 5) → PartsHave whole Has parts os → greatest_status os < 5
+pub parts_small : (whole : Bool) (Has : DocumentPart → PartOutcome → Type 0) (parts : List DocumentPart) (os : List PartOutcome) → ((part : DocumentPart) (o : PartOutcome) → Has part o → outcome_status o < 5) → PartsHave whole Has parts os → greatest_status os < 5
 parts_small whole Has [] [] each h = lit< tt
 parts_small whole Has (p ∷ ps) [] each h = lit< tt
 parts_small whole Has [] (o ∷ os) each h = absurd h

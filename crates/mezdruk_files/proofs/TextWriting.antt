@@ -22,7 +22,7 @@ use Rattle.mezdruk_files.specs.Writing.{WritingFails, WritesOutput}
 pub WritesOutput-nil : (s : SinkState) → WritesOutput s s [] (Ok tt)
 WritesOutput-nil s = record { ok = Appends-nil s.gained; flushed = λ h. h; err = tt; reported = λ l. absurd (omega (arith, l)) }
 
-front_none : (a : Option (List ℕ)) (text : List ℕ) → AppendsFront a a text
+pub front_none : (a : Option (List ℕ)) (text : List ℕ) → AppendsFront a a text
 front_none a text = record { front = []; back = text; whole = refl; gains = Appends-nil a }
 
 fails_from : (old new : SinkState) (text : List ℕ) (code : ErrorCode) (place : Place) → PrintingFails old new text code place → WritingFails old new text code place
@@ -44,7 +44,7 @@ fails_then a b c p q Io Writing g h =
     (AppendsFront-then a.gained b.gained c.gained p q g h.0, record { before = h.1.before; gained = AppendsFront-then a.gained b.gained h.1.before.gained p q g h.1.gained; rose = h.1.rose })
 fails_then a b c p q code place g h = absurd h
 
-fails_first : (a b : SinkState) (p q : List ℕ) (code : ErrorCode) (place : Place) → WritingFails a b p code place → WritingFails a b (p ++ q) code place
+pub fails_first : (a b : SinkState) (p q : List ℕ) (code : ErrorCode) (place : Place) → WritingFails a b p code place → WritingFails a b (p ++ q) code place
 fails_first a b p q NoMemory nowhere h = AppendsFront-first a.gained b.gained p q h
 fails_first a b p q Io Writing h = (AppendsFront-first a.gained b.gained p q h.0, record { before = h.1.before; gained = AppendsFront-first a.gained h.1.before.gained p q h.1.gained; rose = h.1.rose })
 fails_first a b p q code place h = absurd h
@@ -55,6 +55,10 @@ ok_no_error u e h = cc
 -- a failed call after written text is reported
 pub reported_then : {A : Type 0} (a b c : SinkState) (p : List ℕ) (u : Unit {0}) (r : Result A Error) → WritesOutput a b p (Ok u) → (b.faults < c.faults → r ≡ Err writing_failed) → a.faults < c.faults → r ≡ Err writing_failed
 reported_then a b c p u r g h l = elim (cases_lt a.faults b.faults) [ inl m ↦ absurd (ok_no_error u writing_failed (g.reported m)) | inr m ↦ h (omega (arith, l, m)) ]
+
+-- a failed write is one whatever a call counts
+pub err_counted : (e : Error) → ◌≡◌ {A = Result (Unit {0}) Error} (Err e) (Err writing_failed) → ◌≡◌ {A = Result ℕ Error} (Err e) (Err writing_failed)
+err_counted e h = let same : e ≡ writing_failed = cc in rw same refl
 
 pub WritesOutput-then : (a b c : SinkState) (p q : List ℕ) (u : Unit {0}) (r : Result (Unit {0}) Error) → WritesOutput a b p (Ok u) → WritesOutput b c q r → WritesOutput a c (p ++ q) r
 WritesOutput-then a b c p q u (Ok v) g h =

@@ -9,6 +9,8 @@ pub mod Outcomes
 pub mod Streams
 pub mod Documents
 pub mod Running
+pub mod Inputs
+pub mod Marks
 pub mod EditLists
 pub mod PatchOutcomes
 pub mod Patches

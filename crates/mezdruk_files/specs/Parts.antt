@@ -38,6 +38,10 @@ abbrev pub line_parts : List ℕ → ℕ → List (List ℕ) → List DocumentPa
 line_parts name n [] = []
 line_parts name n (line ∷ later) = line_part name n line ∷ line_parts name (n + 1) later
 
+-- the lines of a part
+abbrev pub parts_of_lines : DocumentPart → List DocumentPart
+parts_of_lines p = line_parts p.name p.before (lines_of p.bytes)
+
 -- its lines can be counted in 64 bits
 abbrev pub HasFewLines : DocumentPart → Type 0
 HasFewLines p = p.before + length p.bytes + 1 < 2 ^ 64

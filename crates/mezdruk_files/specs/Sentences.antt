@@ -74,7 +74,7 @@ document_sentence scope part_name (Change e) = counted_word (codes "value") (sco
 -- the hints that there are
 abbrev pub hints : List (List ℕ)
 hints =
-    codes "the input begins with a byte order mark, which JSON does not allow"
+    codes "the input begins with a byte order mark; `--bom` skips it"
     ∷ codes "the input looks like UTF-16; JSON text is UTF-8"
     ∷ codes "`--lines` reads a document from each line, `--stream` one after another"
     ∷ codes "`--stream` reads documents one after another"

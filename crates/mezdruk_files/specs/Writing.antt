@@ -1,11 +1,12 @@
 -- What becomes of a sink to which a text is written, and of a sink for errors that is given up once a write fails.
-use Rattle.std.specs.Prelude.{◌≡◌, ℕ, ◌<◌, false, List, Result, OnOk, IfErr, IsErrOf}
+use Rattle.std.specs.Prelude.{◌≡◌, ◌⊎◌, ℕ, ◌<◌, false, List, [], Some, Result, Ok, OnOk, IfErr, IsErrOf}
 use Rattle.json_io.specs.declared.error.Error.{Error}
 use Rattle.json_io.specs.declared.error.ErrorCode.{ErrorCode}
 use Rattle.json_io.specs.declared.error.ErrorCode.TheVariants.{NoMemory, Io}
 use Rattle.json_io.specs.declared.error.Place.{Place}
 use Rattle.json_io.specs.declared.error.Place.TheVariants.{None as nowhere, Writing}
 use Rattle.json_io.specs.Errors.{writing_failed}
+use Rattle.json_command.specs.Printing.{Prints}
 use Rattle.json_io.specs.Known.{Appends}
 use Rattle.json_io.specs.Outside.{SinkState, Rose}
 use Rattle.json_io.specs.Transfer.{AppendsFront}
@@ -21,6 +22,10 @@ abbrev pub WritingFails : SinkState → SinkState → List ℕ → ErrorCode →
 WritingFails old new text NoMemory nowhere = AppendsFront old.gained new.gained text
 WritingFails old new text Io Writing = AppendsFront old.gained new.gained text × CallFails old new text
 WritingFails old new text code place = ⊥
+
+-- what a block in memory has was written and none is left, or nothing was done
+abbrev pub SendsBlock : SinkState → SinkState → SinkState → SinkState → Type 0
+SendsBlock sink sink' block left = ((sink' ≡ sink) × (left ≡ block)) ⊎ ((text : List ℕ) × (block.gained ≡ Some text) × Prints sink sink' text (Ok tt) × (left.gained ≡ Some []) × (left.faults ≡ 0))
 
 -- the text was written, and nothing waits for a flush if nothing waited before, or writing failed
 pub record WritesOutput (old new : SinkState) (text : List ℕ) (result : Result (Unit {0}) Error) : Type 0 where

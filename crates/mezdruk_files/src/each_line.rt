@@ -22,8 +22,10 @@ fn write_element<K: Sink>(
     ensures { WritesOutput (K.state sink.old) (K.state sink.new)
         (line_in raw style.entry (seen element.entry)) result }
 {
-    let value = element.to_value(alloc)?;
-    write_line(alloc, &value, style, raw, sink)
+    match element.to_value(alloc) {
+        Ok(value) => write_line(alloc, &value, style, raw, sink),
+        Err(error) => Err(error),
+    }
 }
 
 // Prints the line of each element.
@@ -38,7 +40,10 @@ fn write_each<K: Sink>(
         (flat_map (line_in raw style.entry) (elements_seen array.entry)) result }
 {
     'elements: for element in array.iter() {
-        write_element(alloc, element, style, raw, sink)?;
+        match write_element(alloc, element, style, raw, sink) {
+            Ok(()) => {}
+            Err(error) => return Err(error),
+        }
     }
     Ok(())
 }

@@ -24,7 +24,7 @@ fn hint_at_start(bytes: &[u8]) -> Option<&'static str>
 {
     match bytes {
         [0xef, 0xbb, 0xbf, ..] => {
-            Some("the input begins with a byte order mark, which JSON does not allow")
+            Some("the input begins with a byte order mark; `--bom` skips it")
         }
         [0xff, 0xfe, ..] | [0xfe, 0xff, ..] | [0, _, ..] | [_, 0, ..] => {
             Some("the input looks like UTF-16; JSON text is UTF-8")

@@ -94,7 +94,7 @@ impl<'a, C> Job<'a, C> {
 }
 
 // The error of a run for which memory ran out.
-const OUT_OF_MEMORY: Error = Error {
+pub(crate) const OUT_OF_MEMORY: Error = Error {
     code: ErrorCode::NoMemory,
     place: Place::None,
 };

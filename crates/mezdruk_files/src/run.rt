@@ -1,10 +1,11 @@
 // The documents, one after another.
-ghost use Rattle.std.specs.Prelude.{◌≡◌, ◌<◌, ◌≤◌, ◌+◌, ◌^◌, ◌⊎◌, ◌∷◌, List, ℕ, [], true, false, Some, length, max, IfOk, OnOk, IfErr, IfSome};
-ghost use Rattle.json_command.specs.Printing.{ReturnsWriteError};
+ghost use Rattle.std.specs.Prelude.{◌≡◌, ◌<◌, ◌≤◌, ◌+◌, ◌^◌, ◌⊎◌, ◌∷◌, List, ℕ, [], true, false, Some, Err, length, max, IfOk, OnOk, IfErr, IfSome};
+ghost use Rattle.json_command.specs.Printing.{Prints, ReturnsWriteError};
 ghost use Rattle.json_command.specs.Reporting.{Reports, ReportsUnlessMuted};
 ghost use Rattle.mezdruk_files.specs.Documents.{DocumentsHave};
 ghost use Rattle.mezdruk_files.specs.Outcomes.{task_of};
 ghost use Rattle.mezdruk_files.specs.Running.{Handles, StopsRunning, PrintsAll, PrintsSome};
+ghost use Rattle.mezdruk_files.specs.Writing.{SendsBlock};
 ghost use Rattle.json_io.specs.FaultText.{text_of};
 ghost use Rattle.mezdruk_files.specs.Parts.{HasFewLines};
 ghost use Rattle.json_command.specs.Statuses.{ReturnsWriteStatus};
@@ -16,16 +17,36 @@ use crate::job::{InputForm, Job, print_bytes, print_changed};
 use crate::part::{DocumentPart, Scope, is_blank, split_line, whole_part};
 use crate::report::document_report;
 use crate::value_stream::{StreamPlace, document_text, read_value_at, value_part};
-use json_command::{Status, report};
-use json_io::{Error, ErrorCode, Place, Result, Sink, put_all};
+use json_command::{Status, report, write_text};
+use json_io::{Error, ErrorCode, Place, Result, Sink, VecSink, put_all};
 use json_scan::ws_run;
 use std::alloc::Global;
+
+// The values of a stream are written in blocks of at least this many bytes.
+const BLOCK_BYTES: usize = 65_536;
 
 // The error of a document that could not be read.
 const READING_FAILED: DocumentError = DocumentError::Input(Error {
     code: ErrorCode::Io,
     place: Place::Reading,
 });
+
+// Writes what is printed if it has as many bytes as a block, and returns what is left.
+fn write_if_long<K: Sink>(alloc: Global, printed: VecSink, sink: &mut K) -> Result<VecSink>
+    ensures ok { IfOk result (λ left. SendsBlock (K.state sink.old) (K.state sink.new)
+        (⟦<VecSink as Sink>⟧.state printed) (⟦<VecSink as Sink>⟧.state left)) }
+    ensures err { IfErr result (λ e. (text : List ℕ)
+        × ((⟦<VecSink as Sink>⟧.state printed).gained ≡ Some text)
+        × Prints (K.state sink.old) (K.state sink.new) text (Err e)) }
+{
+    if printed.as_slice().len() < BLOCK_BYTES {
+        return Ok(printed);
+    }
+    match write_text(sink, printed.as_slice()) {
+        Ok(()) => Ok(VecSink::new(alloc)),
+        Err(error) => Err(error),
+    }
+}
 
 // The state of a run.
 #[derive(Drop)]
@@ -44,7 +65,7 @@ impl DocumentTally {
     ghost use Rattle.mezdruk_files.specs.Streams.{IsNextPlace, ValueFails, StreamHas, ValueHas, ValuesHave, stream_value_place};
     ghost use Rattle.json_text.specs.Faults.{ValueFaultFrom};
     ghost use Rattle.std.specs.Str.{IsCharBoundary};
-    ghost use Rattle.mezdruk_files.specs.Parts.{part_view, line_parts, lines_of, whole_part as spec_whole_part};
+    ghost use Rattle.mezdruk_files.specs.Parts.{part_view, parts_of_lines, lines_of, whole_part as spec_whole_part};
     ghost use Rattle.mezdruk_files.specs.Running.{ReportsError, ReportingFails};
     ghost use Rattle.mezdruk_files.specs.Sentences.{is_lower_case};
 
@@ -116,32 +137,34 @@ impl DocumentTally {
         }
     }
 
-    // Prints each line of a document or reports its error. Skips lines that have only whitespace.
-    fn handle_lines<C: ValueChange, K: Sink, E: Sink>(
+    // Prints each line of a part of a document or reports its error. Skips lines that have only
+    // whitespace. Returns the number of lines of the document up to the end of the part.
+    pub(crate) fn handle_lines<C: ValueChange, K: Sink, E: Sink>(
         &mut self,
-        whole: DocumentPart<'_>,
+        lines: DocumentPart<'_>,
         job: &Job<'_, C>,
         sink: &mut K,
         errs: &mut E,
-    ) -> Result<()>
+    ) -> Result<usize>
+        requires few { HasFewLines (part_view lines) }
         ensures ok { OnOk result (Handles
-            (PartsHave true (LineOutcome (task_of C.changed job.now))
-            (line_parts (part_view whole.entry).name 0 (lines_of (part_view whole.entry).bytes)))
+            (PartsHave true (LineOutcome (task_of C.changed job.now)) (parts_of_lines (part_view lines.entry)))
             self.old self.new
             (K.state sink.old) (K.state sink.new) (E.state errs.old) (E.state errs.new)) }
+        ensures number { IfOk result (λ n. n ≡ (part_view lines.entry).before
+            + length (lines_of (part_view lines.entry).bytes)) }
         ensures err { IfErr result (StopsRunning
-            (PartsHave false (LineOutcome (task_of C.changed job.now))
-            (line_parts (part_view whole.entry).name 0 (lines_of (part_view whole.entry).bytes)))
+            (PartsHave false (LineOutcome (task_of C.changed job.now)) (parts_of_lines (part_view lines.entry)))
             self.old self.new
             (K.state sink.old) (K.state sink.new) (E.state errs.old) (E.state errs.new)) }
         ensures reported { ReturnsWriteError (K.state sink.old) (K.state sink.new) result }
     {
-        let mut number = 0;
-        let mut rest = whole.bytes;
+        let mut number = lines.before;
+        let mut rest = lines.bytes;
         'lines: while !rest.is_empty() {
             let (line, later) = split_line(rest);
             let part = DocumentPart {
-                name: whole.name,
+                name: lines.name,
                 bytes: line,
                 before: number,
                 scope: Scope::Line,
@@ -156,11 +179,11 @@ impl DocumentTally {
                 Err(error) => return Err(error),
             }
         }
-        Ok(())
+        Ok(number)
     }
 
-    // Reports that no value can be read, unless memory ran out.
-    fn handle_fault<E: Sink>(
+    // Reports an error of the input, unless memory ran out.
+    pub(crate) fn handle_fault<E: Sink>(
         &mut self,
         whole: DocumentPart<'_>,
         error: Error,
@@ -224,7 +247,8 @@ impl DocumentTally {
         }
     }
 
-    // Prints each value of a text or reports its error, up to where no value can be read.
+    // Prints each value of a text or reports its error, up to where no value can be read. What is
+    // printed is written in blocks.
     fn handle_text<C: ValueChange, K: Sink, E: Sink>(
         &mut self,
         start: StreamPlace<'_>,
@@ -244,6 +268,7 @@ impl DocumentTally {
         ensures reported { ReturnsWriteError (K.state sink.old) (K.state sink.new) result }
     {
         let text = start.text;
+        let mut block = VecSink::new(self.alloc);
         let mut offset = 0;
         let mut number = 0;
         'values: while ws_run(text.as_bytes(), offset) < text.len() {
@@ -253,16 +278,20 @@ impl DocumentTally {
                 offset,
                 number,
             };
-            match self.handle_value(place, job, sink, errs) {
+            match self.handle_value(place, job, &mut block, errs) {
                 Ok(Some(next)) => {
                     offset = next;
                     number += 1;
                 }
-                Ok(None) => return Ok(()),
+                Ok(None) => return write_text(sink, block.as_slice()),
+                Err(error) => return Err(error),
+            }
+            match write_if_long(self.alloc, block, sink) {
+                Ok(left) => block = left,
                 Err(error) => return Err(error),
             }
         }
-        Ok(())
+        write_text(sink, block.as_slice())
     }
 
     // Prints each value of a document or reports its error.
@@ -319,7 +348,10 @@ impl DocumentTally {
     {
         match job.input {
             InputForm::One => self.handle_part(whole, job, sink, errs),
-            InputForm::Lines => self.handle_lines(whole, job, sink, errs),
+            InputForm::Lines => match self.handle_lines(whole, job, sink, errs) {
+                Ok(_) => Ok(()),
+                Err(error) => Err(error),
+            },
             InputForm::Stream => self.handle_values(whole, job, sink, errs),
         }
     }
@@ -374,7 +406,7 @@ fn print_each<C: ValueChange, K: Sink, E: Sink>(
 }
 
 // Reports the error of the run, unless a report failed.
-fn report_unless_muted<E: Sink>(errs: &mut E, muted: bool, error: &Error)
+pub(crate) fn report_unless_muted<E: Sink>(errs: &mut E, muted: bool, error: &Error)
     ensures reported { muted ≡ false
         → Reports (text_of error.now) (E.state errs.old) (E.state errs.new) }
     ensures silent { muted ≡ true → E.state errs.new ≡ E.state errs.old }

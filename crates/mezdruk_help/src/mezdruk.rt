@@ -55,6 +55,8 @@ Options, in any order, each at most once but for --path:
   --lines                  each line of the input is a document
   --stream                 documents follow one another; not with --unique-keys
                            and not with --depth=N
+  --bom                    skip a byte order mark at the beginning of the input,
+                           which is refused without it
   -i, --in-place           write each FILE in place, not of check, get, keys,
                            length and diff; an edit keeps the layout of the
                            file if no option asks for one

@@ -29,6 +29,7 @@ _mezdruk_command() {
     fi
     [[ $given =~ \ --(unique-keys|stream)\  ]] || words+=" --unique-keys"
     [[ $given =~ \ --(depth|stream)[\ =] ]] || words+=" --depth="
+    [[ $given =~ \ --bom\  ]] || words+=" --bom"
     if [[ ! $command =~ ^(diff|overlay)$ ]]; then
         [[ $given =~ \ --(lines|stream)\  ]] || words+=" --lines"
         [[ $given =~ \ --(lines|stream|unique-keys|depth)[\ =] ]] || words+=" --stream"

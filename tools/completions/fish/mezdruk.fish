@@ -55,6 +55,7 @@ complete -c mezdruk -n "__mezdruk_takes $prints $layouts" -a '--tabs' -d 'indent
 complete -c mezdruk -n "__mezdruk_takes $prints -S --sort-keys" -a '--sort-keys' -d 'sort the members of each object'
 complete -c mezdruk -n "__mezdruk_takes check,$prints --unique-keys --stream" -a '--unique-keys' -d 'refuse two members of one key'
 complete -c mezdruk -n "__mezdruk_takes check,$prints --depth --stream" -a '--depth=' -d 'refuse input of more levels, 254 without it'
+complete -c mezdruk -n "__mezdruk_takes check,$prints --bom" -a '--bom' -d 'skip a byte order mark at the beginning'
 complete -c mezdruk -n "__mezdruk_takes check,$reads --lines --stream" -a '--lines' -d 'each line is a document'
 complete -c mezdruk -n "__mezdruk_takes check,$reads --lines --stream --unique-keys --depth" -a '--stream' -d 'documents follow one another'
 complete -c mezdruk -n '__mezdruk_takes get,keys -r --raw' -a '--raw' -d 'print the content of a string'

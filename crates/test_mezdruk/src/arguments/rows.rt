@@ -46,6 +46,9 @@ pub const ROWS: &str = r#"# valid
 |0|||diff|a.json|b.json|
 |0|||diff|--merge|-|--pretty|-S|
 |0|||diff|--unique-keys|a.json|--depth=3|b.json|c.json|
+|0|||fmt|--bom|-i|a.json|
+|0|||check|--stream|a.json|--bom|
+|0|||diff|--bom|a.json|b.json|
 # the command
 |2||mezdruk: there is no command|
 |2||mezdruk: there is no command `fmtt`; did you mean `fmt`?|fmtt|
@@ -75,6 +78,7 @@ pub const ROWS: &str = r#"# valid
 # options that are unknown
 |2||mezdruk fmt: there is no option `--prety`; did you mean `--pretty`?|fmt|--prety|
 |2||mezdruk fmt: there is no option `--sort`|fmt|--sort|
+|2||mezdruk fmt: there is no option `--boom`; did you mean `--bom`?|fmt|--boom|
 |2||mezdruk fmt: there is no option `-x`|fmt|-x|
 |2||mezdruk check: the command has no option `--raw`|check|--raw|
 |2||mezdruk check: the command has no option `--compact`|check|--compact|
@@ -114,6 +118,7 @@ pub const ROWS: &str = r#"# valid
 |2||mezdruk set: `-v`: the option occurs twice|set|--verbose|-v|
 |2||mezdruk diff: `--merge`: the option occurs twice|diff|--merge|--merge|
 |2||mezdruk set: `--string`: the option occurs twice|set|--string|--string|
+|2||mezdruk get: `--bom`: the option occurs twice|get|--bom|/a|--bom|
 |2||mezdruk set: `--string`: the option has to come before VALUE|set|/a|"b"|--string|
 |2||mezdruk fmt: `--sort-keys`: the option occurs twice|fmt|--sort-keys|a|--sort-keys|
 |2||mezdruk fmt: `-i`: the option occurs twice|fmt|--in-place|-i|

@@ -1,5 +1,5 @@
 // Documents that have a JSON text on each line.
-use crate::files::runs::{Outcome, Row, all_print};
+use crate::files::runs::{Outcome, Row, all_lines_print, all_print};
 use mezdruk_files::InputForm;
 
 const ROWS: &[Row] = &[
@@ -75,4 +75,11 @@ const ROWS: &[Row] = &[
 #[test]
 fn no_row_differs(rt: HostRuntime) {
     assert!(rt; all_print(rt.alloc(), InputForm::Lines, ROWS));
+}
+
+#[test]
+fn no_row_of_a_source_differs(rt: HostRuntime) {
+    for at_once in [65_536, 3, 1] {
+        assert!(rt; all_lines_print(rt.alloc(), at_once, ROWS), "{at_once}");
+    }
 }

@@ -159,7 +159,7 @@ const OTHER_FORMATS: &[Row] = &[
     (
         b"\xef\xbb\xbf{}",
         b"f:1:1: a value is expected (InvalidJsonValue)\n\xef\xbb\xbf{}\n^\n\
-          hint: the input begins with a byte order mark, which JSON does not allow\n",
+          hint: the input begins with a byte order mark; `--bom` skips it\n",
     ),
     (
         b"\xff\xfe[\0",

@@ -1,7 +1,10 @@
 // Runs over documents in memory.
 use json_print::Style;
-use json_text::{Result, Rules, Sink, VecSink};
-use mezdruk_files::{InputForm, Job, NamedDocument, Unchanged, ValueChange, print_documents};
+use json_text::{FakeSource, Result, Rules, Sink, Source, VecSink};
+use mezdruk_files::{
+    InputForm, Job, NamedDocument, NamedSource, Unchanged, ValueChange, print_documents,
+    print_lines,
+};
 use std::alloc::Global;
 
 /// What a run writes and reports, and its status.
@@ -83,6 +86,43 @@ pub fn all_print(alloc: Global, form: InputForm, rows: &[Row]) -> bool {
     let mut job = compact(Unchanged);
     job.input = form;
     all_hold(alloc, &job, rows)
+}
+
+/// Returns the status of a run over the lines of a source. The proof of a caller has none of its
+/// clauses to carry.
+pub fn lines_status<C: ValueChange, S: Source, K: Sink, E: Sink>(
+    alloc: Global,
+    input: &mut NamedSource<'_, S>,
+    job: &Job<'_, C>,
+    sink: &mut K,
+    errs: &mut E,
+) -> u8 {
+    print_lines(alloc, input, job, sink, errs)
+}
+
+// Returns whether a run over the lines of the source `f` of these bytes, of which it gives at most
+// `at_once` a call, has this outcome.
+fn lines_come_to(alloc: Global, input: &[u8], at_once: usize, outcome: &Outcome<'_>) -> bool {
+    let source = FakeSource::new(input, at_once.max(1), &[]);
+    let mut named = NamedSource { name: "f", source };
+    let mut sink = VecSink::new(alloc);
+    let mut errs = VecSink::new(alloc);
+    let job = compact(Unchanged);
+    let status = lines_status(alloc, &mut named, &job, &mut sink, &mut errs);
+    status == outcome.status
+        && sink.as_slice() == outcome.output
+        && errs.as_slice() == outcome.reports
+}
+
+/// Returns whether the lines of each input are printed as they are, by a source that gives at most
+/// `at_once` bytes a call.
+pub fn all_lines_print(alloc: Global, at_once: usize, rows: &[Row]) -> bool {
+    for row in rows {
+        if !lines_come_to(alloc, row.input, at_once, &row.outcome) {
+            return false;
+        }
+    }
+    true
 }
 
 fn document_of(alloc: Global, named: &Named) -> Result<NamedDocument> {

@@ -1,5 +1,4 @@
 use Rattle.std.proofs.Common.{◌∷◌, Ok, Err, sym, subst, ap, ◌∙◌}
-use Rattle.std.proofs.lemmas.Result.{err_from_is_err_and}
 use Rattle.mezdruk_files.specs.Outcomes.{line_in}
 use Rattle.json_value.specs.Left.{elements_left}
 use Rattle.json_value.specs.Seen.{seen, elements_seen}
@@ -20,19 +19,18 @@ elements-preserved g c =
     let old = g.K.Sink.state c.args.sink.now in
     let now = g.K.Sink.state c.elements.sink in
     let next = g.K.Sink.state c.write_element.new.sink in
-    one_written line all old (elements_left c.next.new.self) (seen c.in-Some.element) now next c.in_ok-write_element.field-0
-    (subst (λ ts. WroteSoFar line all ts old now) c.in-Some.ensures.steps.0 c.elements.invariant) c.in_ok-write_element.ensures
+    one_written line all old (elements_left c.next.new.self) (seen c.in-Some.element) now next tt
+    (subst (λ ts. WroteSoFar line all ts old now) c.in-Some.ensures.steps.0 c.elements.invariant) c.in-Ok.ensures
 
-pub returns-in_err-write_element : goal.returns-in_err-write_element
-returns-in_err-write_element g c =
+pub returns-in-Err : goal.returns-in-Err
+returns-in-Err g c =
     let line = line_in c.args.raw c.args.style in
     let all = elements_seen c.args.array in
     let old = g.K.Sink.state c.args.sink.now in
     let now = g.K.Sink.state c.elements.sink in
     let next = g.K.Sink.state c.write_element.new.sink in
-    let q = err_from_is_err_and c.from_residual.result c.from_residual.ensures.1 in
-    rw (q.1, q.2) (one_failed line all old (elements_left c.next.new.self) (seen c.in-Some.element) now next _
-    (subst (λ ts. WroteSoFar line all ts old now) c.in-Some.ensures.steps.0 c.elements.invariant) c.in_err-write_element.ensures)
+    one_failed line all old (elements_left c.next.new.self) (seen c.in-Some.element) now next c.in-Err.error
+    (subst (λ ts. WroteSoFar line all ts old now) c.in-Some.ensures.steps.0 c.elements.invariant) c.in-Err.ensures
 
 pub returns : goal.returns
 returns g c =
