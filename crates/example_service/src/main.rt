@@ -35,7 +35,8 @@ fn serve_line<W: Write>(
 
 // Serves all lines of the source. The loop has a bound, since it is proved to end.
 fn serve_lines<S: Source, W: Write>(alloc: Global, source: &mut S, out: &mut W) -> Result<()> {
-    let mut service = Service::with_document(from_str::<Value>(alloc, DOCUMENT)?);
+    let document = from_str::<Value>(alloc, DOCUMENT)?;
+    let mut service = Service::with_document(alloc, document);
     let mut reader = LineReader::new(alloc, MAX_LINE_BYTES)?;
     for _ in 0..u64::MAX {
         match reader.next_line(source) {

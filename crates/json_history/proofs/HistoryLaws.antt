@@ -251,7 +251,7 @@ past_of_valid v (c ∷ cs) l =
     ∙ ap (λ r. and_then r (λ us. Ok (l.0 ∷ us))) (past_of_valid l.0 cs l.3)
     )
 
-future_of_valid : (v : Tree) (rs : List TreeRedo) → AreFutureSteps v rs → future_of v rs ≡ Ok (trees_or_empty (future_of v rs))
+pub future_of_valid : (v : Tree) (rs : List TreeRedo) → AreFutureSteps v rs → future_of v rs ≡ Ok (trees_or_empty (future_of v rs))
 future_of_valid v [] l = refl
 future_of_valid v (r ∷ rs) l =
     ok_trees_or_empty (future_of v (r ∷ rs)) (l.0 ∷ trees_or_empty (future_of l.0 rs)) (

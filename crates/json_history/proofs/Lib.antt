@@ -16,3 +16,4 @@ pub mod HistoryLaws
 pub mod LimitedHistories
 pub mod RestoredValues
 pub mod SharedTargets
+pub mod CopiedHistories

@@ -40,7 +40,7 @@ no_change_no_edit t u e none made = let a = edit_undone_by t u e made in no a.tr
 pub ok_is_ok : {A : Type 0} (r : Changed A) (x : A) → r ≡ Ok x → IsOk r
 ok_is_ok r x e = ap is_ok e
 
-from_truncated : {P : Type 0} (b : Bool) → ∥ P ∥₁ → (P → b ≡ true) → b ≡ true
+pub from_truncated : {P : Type 0} (b : Bool) → ∥ P ∥₁ → (P → b ≡ true) → b ≡ true
 from_truncated true t f = refl
 from_truncated false t f = absurd (not_there t (λ p. (cc (f p))))
 

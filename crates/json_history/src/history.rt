@@ -3,6 +3,8 @@ ghost use Rattle.std.specs.Prelude.{◌≡◌, IfOk, Ok, OnOk, OnErr, [], length
 ghost use Rattle.json_model.specs.Edit.{edited_once};
 ghost use Rattle.json_value.specs.Denotes.{tree_of};
 ghost use Rattle.json_value.specs.Edits.{edit_of, edit_path, FailsAs};
+ghost use Rattle.json_value.specs.Places.{places_in};
+ghost use Rattle.json_value.specs.Positions.{doc_position};
 ghost use Rattle.json_value.specs.Touched.{Touches, KeepsOnRefusal};
 ghost use Rattle.json_history.specs.History.{IsValidLog, new_log, log_edit, log_call, undo, redo, is_nonempty};
 ghost use Rattle.json_history.specs.History.{new_history, after_call, edit as edits, history_of};
@@ -13,6 +15,7 @@ ghost use Rattle.json_history.specs.SharedParts.{AppendsChange, MovesToRedos, Mo
 ghost use Rattle.json_io.specs.Errors.{OnlyNoMemory};
 
 use crate::change::Change;
+use crate::copies::{copy_changes, copy_redos};
 use crate::redo::Redo;
 use crate::steps::{apply_and_log, keep_last, redo_next, undo_last};
 use json_io::Result;
@@ -82,16 +85,58 @@ impl History {
 
     /// Returns the number of edits that can be undone.
     pub fn undo_count(&self) -> usize
-        ensures { result ≡ length (log_of self.now).changes }
+        ensures log { result ≡ length (log_of self.now).changes }
+        ensures history { result ≡ length (history_of (log_of self.now)).past }
     {
         self.changes.len()
     }
 
     /// Returns the number of edits that can be redone.
     pub fn redo_count(&self) -> usize
-        ensures { result ≡ length (log_of self.now).redos }
+        ensures log { result ≡ length (log_of self.now).redos }
+        ensures history { result ≡ length (history_of (log_of self.now)).future }
     {
         self.redos.len()
+    }
+
+    /// Returns a copy of this history: of its value, of the edits to undo and of those to redo.
+    /// Packed parts of the value stay packed. Fails with `NoMemory` if memory runs out.
+    ///
+    /// ```
+    /// use json_data::from_str;
+    /// use json_history::History;
+    /// use json_value::{Edit, Value};
+    /// let mut history = History::new(alloc, from_str::<Value>(alloc, "[]")?);
+    /// history.apply(alloc, from_str::<Edit>(alloc, "[\"push\",[],1]")?)?;
+    /// let mut copy = history.clone(alloc)?;
+    /// assert!(rt; copy.undo(alloc)?);
+    /// assert_eq!(rt; copy.value().to_string(alloc)?.as_str(), "[]");
+    /// assert_eq!(rt; history.into_value().to_string(alloc)?.as_str(), "[1]");
+    /// ```
+    pub fn clone(&self, alloc: Global) -> Result<History>
+        ensures log { IfOk result (λ h. log_of h ≡ log_of self.now) }
+        ensures position { IfOk result (λ h. doc_position (history_value h)
+            ≡ doc_position (history_value self.now)) }
+        ensures places { IfOk result (λ h. places_in (history_value h)
+            ≡ places_in (history_value self.now)) }
+        ensures only { OnlyNoMemory result }
+    {
+        let current = self.value.clone(alloc)?;
+        let changes = copy_changes(alloc, self.changes())?;
+        let redos = copy_redos(alloc, self.redos.as_slice())?;
+        Ok(History {
+            value: current,
+            changes,
+            redos,
+        })
+    }
+
+    /// Consumes the history and returns its current value.
+    pub fn into_value(self) -> Value
+        ensures tree { tree_of result ≡ (log_of self).value }
+        ensures value { result ≡ history_value self }
+    {
+        self.value
     }
 
     /// Applies `edit` to the current value. Nothing can be redone afterwards: edits that were

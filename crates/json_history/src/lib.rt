@@ -19,6 +19,7 @@ mod arguments;
 mod call;
 mod calls;
 mod change;
+mod copies;
 mod edit_change;
 mod engine;
 pub mod examples;

@@ -9,7 +9,8 @@ use json_io::Result;
 use json_value::{Path, PointerNode, Text};
 use std::alloc::Global;
 
-fn copy_step(alloc: Global, step: &PointerNode) -> Result<PointerNode>
+// Copies the step.
+pub(crate) fn copy_step(alloc: Global, step: &PointerNode) -> Result<PointerNode>
     ensures step { IfOk result (λ s. step_of s ≡ step_of step.now) }
     ensures only { OnlyNoMemory result }
 {

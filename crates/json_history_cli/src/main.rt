@@ -8,13 +8,16 @@
 
 use json_command::Console;
 use json_history::run_history;
-use mezdruk_help::USAGE_HISTORY;
+use mezdruk_help::{USAGE_HISTORY, report_unread};
 use std::process::ExitCode;
 
 fn main(rt: HostRuntime) -> ExitCode {
     let mut console = match Console::open(&rt, &USAGE_HISTORY.about) {
         Ok(console) => console,
-        Err(status) => return ExitCode::from(status.number()),
+        Err(status) => {
+            report_unread(&rt, USAGE_HISTORY.program, status);
+            return ExitCode::from(status.number());
+        }
     };
     let (source, sink, errs) = (&mut console.source, &mut console.sink, &mut console.errs);
     let status = run_history(rt.alloc(), &console.arguments, source, sink, errs);

@@ -27,7 +27,7 @@ use Rattle.json_lines.specs.Outcomes.{max_line, HasOutcome, blank, good, faulty}
 use Rattle.json_lines.specs.Rows.{Row, Bad, outcome_row}
 use Rattle.json_lines.specs.LineHandling.{WritesRow, RowFails, ReturnsOutcome}
 use Rattle.json_lines.proofs.OneOutcome.{some_outcome}
-use Rattle.json_lines.proofs.TextWriting.{WritesText-nil}
+use Rattle.json_lines.proofs.TextWriting.{WritesText-nil, WritesText-no-memory}
 
 -- ---- whitespace
 
@@ -42,11 +42,6 @@ blank-known b k false is short space stop = λ w. let l = below b k short (eqb-f
   where
     below : (b : List ℕ) (k : ℕ) → k ≤ length b → (k ≡ length b → ⊥) → k < length b
     below b k short n = elim (cases_lt k (length b)) [ inl l ↦ l | inr m ↦ absurd (n (omega (arith, m, short))) ]
-
--- memory ran out, and nothing was written
-WritesText-no-memory : (s : SinkState) (text : List ℕ) (e : Error) → e ≡ no_memory → WritesText s s text (Err e)
-WritesText-no-memory s text e is =
-    rw is (record { ok = tt; calm = tt; prefix = record { back = text; whole = refl }; cause = tt; reported = λ l. absurd (omega (arith, l)); same_loan = refl })
 
 -- ---- the outcome
 

@@ -196,6 +196,18 @@ ReadsLines-parted a b s t done before =
     parted None h = tt
     parted (Some x) h = ap lines (sym (append-nil before.bytes)) ∙ h ∙ ap (λ l. done ++ lines l) (append-nil b.held)
 
+-- the lines of all bytes that are known
+known_lines : (al bl : Option (List ℕ)) (bytes passed held : List ℕ) (done : List (List ℕ)) → Consumes al bl bytes → bytes ≡ passed ++ held → IfSome bl (λ left. LinesAreDone passed done (held ++ left))
+    → IfSome al (λ x. (later : List (List ℕ)) × (lines x ≡ done ++ later))
+known_lines al None bytes passed held done consumed whole through = subst (λ k. IfSome k (λ x. (later : List (List ℕ)) × (lines x ≡ done ++ later))) (sym consumed) tt
+known_lines al (Some left) bytes passed held done consumed whole through =
+    subst (λ k. IfSome k (λ x. (later : List (List ℕ)) × (lines x ≡ done ++ later))) (sym consumed)
+    (lines (held ++ left), ap lines (ap (λ l. l ++ left) whole ∙ append_assoc passed held left) ∙ through (held ++ left) [] (sym (append-nil (held ++ left))))
+
+-- the lines of all bytes are those that were read, and others
+pub ReadsLines-known : (a b : ReaderState) (s t : SourceState) (done : List (List ℕ)) → ReadsLines a b s t done → IfSome s.left (λ x. (later : List (List ℕ)) × (lines x ≡ done ++ later))
+ReadsLines-known a b s t done before = known_lines s.left t.left before.bytes before.passed b.held done before.reads.consumed before.whole before.through
+
 reading-told : (code : ErrorCode) (place : Place) (new : ReaderState) (s u : SourceState) → NextLineCause new s u code place → s.faults < u.faults → record { code = code; place = place } ≡ reading_failed
 reading-told Io Reading new s u h l = refl
 reading-told TooLarge nowhere new s u h l = absurd (omega (arith, h.0, l))

@@ -1,5 +1,5 @@
 -- From the loop over the lines to the call that writes all rows.
-use Rattle.std.proofs.Common.{◌≡◌, ℕ, ◌⊎◌, inl, inr, Bool, true, false, List, [], ◌++◌, length, Option, None, Some, Ok, Err, IfSome, refl, sym, ◌∙◌, subst, arith, append-nil}
+use Rattle.std.proofs.Common.{◌≡◌, ℕ, ◌⊎◌, inl, inr, Bool, true, false, List, [], ◌++◌, length, Option, None, Some, Ok, Err, IfSome, refl, sym, ◌∙◌, subst, arith}
 use Rattle.json_io.specs.Known.{Keeps}
 use Rattle.json_io.specs.Outside.{SinkState, Rose}
 use Rattle.json_io.specs.Transfer.{FlushesAll, Puts, WritingCause}
@@ -9,14 +9,16 @@ use Rattle.json_io.specs.declared.error.ErrorCode.TheVariants.{NoMemory, Io}
 use Rattle.json_io.specs.declared.error.Place.{Place}
 use Rattle.json_io.specs.declared.error.Place.TheVariants.{None as nowhere, Writing}
 use Rattle.json_io.specs.Errors.{no_memory, writing_failed}
+use Rattle.json_io.specs.Known.{append_known}
+use Rattle.json_layout.specs.TextWriting.{Begins}
 use Rattle.json_io.proofs.Known.{Appends-nil, Appends-kept, Appends-trans}
 use Rattle.json_io.proofs.Putting.{AppendsFront-first, AppendsFront-then, Puts-nil}
 use Rattle.json_command.specs.Reporting.{Reports, ReportsUnlessMuted}
 use Rattle.json_lines.specs.declared.run.LineTally.{LineTally}
-use Rattle.json_lines.specs.Lines.{lines}
 use Rattle.json_lines.specs.Rows.{Outcome, rows_of}
+use Rattle.json_lines.proofs.HandledOutcomes.{good_first}
 use Rattle.json_lines.specs.Steps.{RunState}
-use Rattle.json_lines.specs.Running.{IsFreshRun, HandlesLines, FinishesLines, StopsEarly}
+use Rattle.json_lines.specs.Running.{IsFreshRun, HandlesAll, FinishesLines, StopsEarly}
 use Rattle.json_lines.specs.TopCall.{Streams, GainsRows, WritesAllRows, WritesFewerRows}
 use Rattle.json_lines.proofs.TextWriting.{Begins-part}
 use Rattle.json_lines.proofs.HandledLines.{IfSome-map}
@@ -28,8 +30,8 @@ abbrev pub streams_of : RunState → Streams
 streams_of s = record { source = s.source; sink = s.sink; errs = s.errs }
 
 -- memory ran out for the reader
-pub WritesFewerRows-none : (has : List ℕ → Outcome → Type 0) (a : Streams) (t : LineTally) → t.muted ≡ false → WritesFewerRows has a a t no_memory
-WritesFewerRows-none has a t unmuted =
+pub WritesFewerRows-none : (has : List ℕ → Outcome → Type 0) (strict : Bool) (a : Streams) (t : LineTally) → t.muted ≡ false → WritesFewerRows has strict [] a a t no_memory
+WritesFewerRows-none has strict a t unmuted =
     record {
       bytes = [];
       gives = gives_nothing a.source;
@@ -39,7 +41,7 @@ WritesFewerRows-none has a t unmuted =
       writing_told = λ l. absurd (omega (arith, l));
     }
   where
-    nothing : StopsEarly has a.sink a.sink a.errs a.errs t.muted []
+    nothing : StopsEarly has strict [] a.sink a.sink a.errs a.errs t.muted []
     nothing = record {
       done = [];
       begun = [];
@@ -49,11 +51,13 @@ WritesFewerRows-none has a t unmuted =
       have = tt;
       next = [];
       next_have = tt;
+      first = good_first strict [] (λ _. refl);
+      first_next = good_first strict [] (λ _. refl);
       rows = Begins-part a.sink.gained a.sink.gained [] [] (Appends-nil a.sink.gained);
       reports = subst (λ d. ReportsUnlessMuted false d a.errs a.errs []) (sym unmuted) (Puts-nil a.errs);
     }
 
-    some_stops : (o : Option (List ℕ)) → IfSome o (λ _. StopsEarly has a.sink a.sink a.errs a.errs t.muted [])
+    some_stops : (o : Option (List ℕ)) → IfSome o (λ _. StopsEarly has strict [] a.sink a.sink a.errs a.errs t.muted [])
     some_stops None = tt
     some_stops (Some x) = nothing
 
@@ -61,49 +65,59 @@ WritesFewerRows-none has a t unmuted =
 abbrev pub with_sink : RunState → SinkState → Streams
 with_sink s sink = record { source = s.source; sink = sink; errs = s.errs }
 
-gains_flushed : (has : List ℕ → Outcome → Type 0) (done : List (List ℕ)) (a c sink errs errs' : SinkState) (t : LineTally) → Keeps c.gained sink.gained → HandlesLines has done a c errs errs' t → GainsRows has done a sink errs errs' t
-gains_flushed has done a c sink errs errs' t keeps h =
-    record { outcomes = h.outcomes; have = h.have; rows = Appends-kept a.gained c.gained sink.gained (rows_of h.outcomes) h.rows.ok keeps; reports = h.reports; bad = h.bad }
+gains_flushed : (has : List ℕ → Outcome → Type 0) (strict : Bool) (bytes : List ℕ) (a c sink errs errs' : SinkState) (t : LineTally) → Keeps c.gained sink.gained → HandlesAll has strict bytes a c errs errs' t → GainsRows has strict [] bytes a sink errs errs' t
+gains_flushed has strict bytes a c sink errs errs' t keeps all =
+    let h = all.handled in
+    record {
+      done = all.done;
+      later = all.later;
+      parted = all.parted;
+      outcomes = h.outcomes;
+      have = h.have;
+      alone = all.alone;
+      rows = Appends-kept a.gained c.gained sink.gained (rows_of h.outcomes) h.rows.ok keeps;
+      reports = h.reports;
+      bad = h.bad;
+    }
 
-pub WritesAllRows-flushed : (has : List ℕ → Outcome → Type 0) (a c : RunState) (sink : SinkState) (u : Unit {0}) → IsFreshRun a → FinishesLines has a c → FlushesAll c.sink sink (Ok u) → WritesAllRows has (streams_of a) (with_sink c sink) c.tally
-WritesAllRows-flushed has a c sink u fresh run flush =
+pub WritesAllRows-flushed : (has : List ℕ → Outcome → Type 0) (strict : Bool) (a c : RunState) (sink : SinkState) (u : Unit {0}) → IsFreshRun a → FinishesLines has strict a c → FlushesAll c.sink sink (Ok u) → WritesAllRows has strict [] (streams_of a) (with_sink c sink) c.tally
+WritesAllRows-flushed has strict a c sink u fresh run flush =
     record {
       bytes = run.bytes;
       gives = gives_bytes a.reader c.reader a.source c.source run.bytes run.reads;
       few = few_bytes a.reader.received c.reader.received (length run.bytes) fresh.received run.reads.received_so run.few;
-      drained = run.drained;
+      ends = run.ends;
       no_fault = run.no_fault;
       no_sink_fault = same_faults c.sink.faults sink.faults flush.later.faults (λ l. ok_no_error u writing_failed (flush.reported l)) ∙ run.no_sink_fault;
       flushed = flush.ok;
-      handled = IfSome-map a.source.left (λ b. HandlesLines has (lines b) a.sink c.sink a.errs c.errs c.tally) (λ b. GainsRows has (lines b) a.sink sink a.errs c.errs c.tally)
-          (λ b h. gains_flushed has (lines b) a.sink c.sink sink a.errs c.errs c.tally flush.keeps h) run.handled;
+      handled = IfSome-map a.source.left (λ b. HandlesAll has strict b a.sink c.sink a.errs c.errs c.tally) (λ b. GainsRows has strict [] b a.sink sink a.errs c.errs c.tally)
+          (λ b h. gains_flushed has strict b a.sink c.sink sink a.errs c.errs c.tally flush.keeps h) run.handled;
     }
 
-flush_stops : (has : List ℕ → Outcome → Type 0) (o : Option (List ℕ)) (bytes : List ℕ) (a c sink errs errs' : SinkState) (t : LineTally) → IfSome o (λ b. b ≡ bytes)
-    → IfSome o (λ b. HandlesLines has (lines b) a c errs errs' t) → Keeps c.gained sink.gained
-    → IfSome o (λ _. StopsEarly has a sink errs errs' t.muted bytes)
-flush_stops has None bytes a c sink errs errs' t is handled keeps = tt
-flush_stops has (Some b) bytes a c sink errs errs' t is handled keeps =
-    subst (StopsEarly has a sink errs errs' t.muted) is
-    (record {
-      done = lines b;
-      begun = [];
-      later = [];
-      parted = sym (append-nil (lines b));
-      outcomes = handled.outcomes;
-      have = handled.have;
-      next = [];
-      next_have = tt;
-      rows = Begins-part a.gained sink.gained (rows_of handled.outcomes) [] (Appends-kept a.gained c.gained sink.gained (rows_of handled.outcomes) handled.rows.ok keeps);
-      reports = handled.reports;
-    })
+stops_flushed : (has : List ℕ → Outcome → Type 0) (strict : Bool) (bytes : List ℕ) (a c sink errs errs' : SinkState) (muted : Bool) → Keeps c.gained sink.gained → StopsEarly has strict [] a c errs errs' muted bytes → StopsEarly has strict [] a sink errs errs' muted bytes
+stops_flushed has strict bytes a c sink errs errs' muted keeps h =
+    record {
+      done = h.done;
+      begun = h.begun;
+      later = h.later;
+      parted = h.parted;
+      outcomes = h.outcomes;
+      have = h.have;
+      next = h.next;
+      next_have = h.next_have;
+      first = h.first;
+      first_next = h.first_next;
+      rows = subst (λ g. Begins g (append_known a.gained (rows_of h.outcomes ++ rows_of h.next))) (sym keeps) h.rows;
+      reports = h.reports;
+    }
 
-pub WritesFewerRows-flush : (has : List ℕ → Outcome → Type 0) (a c : RunState) (sink : SinkState) (e : Error) → FinishesLines has a c → FlushesAll c.sink sink (Err e) → WritesFewerRows has (streams_of a) (with_sink c sink) c.tally e
-WritesFewerRows-flush has a c sink e run flush =
+pub WritesFewerRows-flush : (has : List ℕ → Outcome → Type 0) (strict : Bool) (a c : RunState) (sink : SinkState) (e : Error) → FinishesLines has strict a c → FlushesAll c.sink sink (Err e) → WritesFewerRows has strict [] (streams_of a) (with_sink c sink) c.tally e
+WritesFewerRows-flush has strict a c sink e run flush =
     record {
       bytes = run.bytes;
       gives = gives_bytes a.reader c.reader a.source c.source run.bytes run.reads;
-      stops = flush_stops has a.source.left run.bytes a.sink c.sink sink a.errs c.errs c.tally run.all run.handled flush.keeps;
+      stops = IfSome-map a.source.left (λ _. StopsEarly has strict [] a.sink c.sink a.errs c.errs c.tally.muted run.bytes) (λ _. StopsEarly has strict [] a.sink sink a.errs c.errs c.tally.muted run.bytes)
+          (λ _ h. stops_flushed has strict run.bytes a.sink c.sink sink a.errs c.errs c.tally.muted flush.keeps h) run.stops;
       cause = cause-flush run.bytes a.source c.source a.sink sink e.code e.place c.sink run.no_sink_fault flush.cause;
       reading_reported = λ l. absurd (omega (arith, l, run.no_fault));
       writing_told = λ l. err_same e writing_failed (flush.reported (omega (arith, l, run.no_sink_fault)));

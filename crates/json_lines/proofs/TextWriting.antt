@@ -1,5 +1,6 @@
 -- One text after another, written to a sink.
 use Rattle.std.proofs.Common.{◌≡◌, ℕ, List, [], ◌++◌, Option, Ok, Err, Result, refl, sym, ap, ◌∙◌, subst, arith}
+use Rattle.json_io.specs.Errors.{no_memory}
 use Rattle.json_io.specs.Known.{append_known}
 use Rattle.json_io.specs.Outside.{SinkState}
 use Rattle.json_io.specs.declared.error.Error.{Error}
@@ -8,6 +9,11 @@ use Rattle.json_layout.specs.TextWriting.{Begins, StopCause, WritesText}
 
 pub WritesText-nil : (s : SinkState) → WritesText s s [] (Ok tt)
 WritesText-nil s = record { ok = Appends-nil s.gained; calm = refl; prefix = tt; cause = tt; reported = λ l. absurd (omega (arith, l)); same_loan = refl }
+
+-- memory ran out, and nothing was written
+pub WritesText-no-memory : (s : SinkState) (text : List ℕ) (e : Error) → e ≡ no_memory → WritesText s s text (Err e)
+WritesText-no-memory s text e is =
+    rw is (record { ok = tt; calm = tt; prefix = record { back = text; whole = refl }; cause = tt; reported = λ l. absurd (omega (arith, l)); same_loan = refl })
 
 -- the first text failed
 pub WritesText-first : (a b : SinkState) (p q : List ℕ) (e : Error) → WritesText a b p (Err e) → WritesText a b (p ++ q) (Err e)

@@ -1,5 +1,5 @@
 -- What words spell.
-use Rattle.std.proofs.Common.{◌≡◌, ◌≢◌, ◌⊎◌, inl, inr, ◌∙◌, ℕ, ◌≤◌, Bool, true, false, List, [], ◌∷◌, ◌++◌, length, take, drop, cond, Option, Some, None, MatchOption, slice_get, bytes_eq, refl, sym, ap, arith}
+use Rattle.std.proofs.Common.{◌≡◌, ◌≢◌, ◌⊎◌, inl, inr, ◌∙◌, ℕ, ◌≤◌, Bool, true, false, List, [], ◌∷◌, ◌++◌, length, take, drop, cond, Option, Some, None, MatchOption, option_to_list, slice_get, bytes_eq, refl, sym, ap, subst, arith}
 use Rattle.std.proofs.Math.Seq.{take-append_seam}
 use Rattle.std.proofs.lemmas.List.{take-append-drop}
 use Rattle.std.proofs.lemmas.Slice.Eq.{bytes_eq-Decides}
@@ -16,7 +16,8 @@ use Rattle.json_io.specs.declared.error.ErrorCode.TheVariants.{NoMemory, TypeUnm
 use Rattle.json_io.specs.declared.error.Place.{Place}
 use Rattle.json_io.specs.declared.error.Place.TheVariants.{None as nowhere}
 use Rattle.json_model.specs.Edit.{Step, push_at}
-use Rattle.json_value.specs.EditTrees.{path_in, each_in}
+use Rattle.json_model.specs.Print.{shown}
+use Rattle.json_value.specs.EditTrees.{both, path_in, each_in}
 use Rattle.json_value.specs.Seen.{list_of}
 use Rattle.json_data.specs.Reading.{gives, refuses}
 use Rattle.json_data.specs.ReadingValues.{path_datum, spelled, read_path}
@@ -24,8 +25,8 @@ use Rattle.json_data.specs.Spelled.{Unspelled}
 use Rattle.json_data.specs.ValueCalls.{TreeReadingFails}
 use Rattle.json_data.proofs.ValueData.{same_edit}
 use Rattle.json_command.specs.Input.{IsInput, IsValid}
-use Rattle.json_lines.specs.Cells.{Column, LinesCommand}
-use Rattle.json_lines.specs.Words.{column_in, columns_in, WordSpells, WordSpellsNothing, NoColumns, SpellsCommand, SpellsHas, AsksForColumns, split_words}
+use Rattle.json_lines.specs.Cells.{Column, ColumnKind, RowFormat, LinesCommand}
+use Rattle.json_lines.specs.Words.{kind_in, column_of_pair, column_in, columns_in, WordSpells, WordSpellsNothing, NoColumns, HoldsWords, format_by, SpellsCommand, SpellsHas, AsksForColumns}
 
 -- ---- paths
 
@@ -117,13 +118,19 @@ not_few word cs n s is none columns k p q =
     let same : cs ≡ columns = one_spelled columns_in word cs columns s k in
     none (omega (arith, is, ap length same, p)) (omega (arith, is, ap length same, q))
 
--- ---- the command
+-- ---- a column and its name
 
-pub two_words : (arguments : List (List ℕ)) (a b : List ℕ) → length arguments ≡ 2 → slice_get arguments 0 ≡ Some a → slice_get arguments 1 ≡ Some b → a ∷ b ∷ [] ≡ arguments
-two_words [] a b n e f = absurd (omega arith)
-two_words (x ∷ []) a b n e f = absurd (omega arith)
-two_words (x ∷ y ∷ []) a b n e f = cc
-two_words (x ∷ y ∷ z ∷ xs) a b n e f = absurd (omega arith)
+abbrev named : List ℕ → List Step → ColumnKind → Column
+named n p k = record { path = p; kind = k; name = n }
+
+pub column_of_parts : (path kind : Tree) (p : List Step) (k : ColumnKind) (n : List ℕ) → path_in path ≡ Some p → kind_in kind ≡ Some k → n ≡ shown None 0 path → column_of_pair (path ∷ kind ∷ []) ≡ Some (named n p k)
+column_of_parts path kind p k n e f g =
+    ap (λ o. both (named (shown None 0 path)) o (kind_in kind)) e ∙ ap (λ o. both (named (shown None 0 path)) (Some p) o) f ∙ ap (λ m. Some (named m p k)) (sym g)
+
+pub column_of_no_path : (path kind : Tree) → path_in path ≡ None → column_of_pair (path ∷ kind ∷ []) ≡ None
+column_of_no_path path kind e = ap (λ o. both (named (shown None 0 path)) o (kind_in kind)) e
+
+-- ---- the command
 
 -- what follows an option, where a word begins with it
 pub option_text : (word option : List ℕ) (found : Option (Bor (List ℕ))) → MatchOption found (LacksTextAt option word 0) (λ x. StripsPrefix (FindsTextPrefix option) word x.now)
@@ -139,16 +146,41 @@ option_text word option (Some x) (k, (is, split, at), rest, len) =
 
 -- ---- one command
 
+-- words hold one list of parts
+same_word : (o p : Option (List ℕ)) → option_to_list o ≡ option_to_list p → o ≡ p
+same_word None None e = refl
+same_word None (Some y) e = absurd cc
+same_word (Some x) None e = absurd cc
+same_word (Some x) (Some y) e = cc
+
+some_word : (x y : List ℕ) → Some x ≡ Some y → x ≡ y
+some_word x y e = cc
+
+same_flag : (s t : Bool) → ◌≡◌ {A = ℕ} (cond s 1 0) (cond t 1 0) → s ≡ t
+same_flag true true e = refl
+same_flag false false e = refl
+same_flag true false e = absurd (omega (arith, e))
+same_flag false true e = absurd (omega (arith, e))
+
+pub same_parts : (words : List (List ℕ)) (w w' h h' : Option (List ℕ)) (s s' v v' : Bool) → HoldsWords words w h s v → HoldsWords words w' h' s' v' → (w ≡ w') × (h ≡ h') × (s ≡ s') × (v ≡ v')
+same_parts words w w' h h' s s' v v' j k =
+    (same_word w w' (sym j.columns_is ∙ k.columns_is), same_word h h' (sym j.has_is ∙ k.has_is), same_flag s s' (sym j.strict_is ∙ k.strict_is), same_flag v v' (sym j.csv_is ∙ k.csv_is))
+
 one_has : (has : Option (List ℕ)) (p q : List Step) → SpellsHas has p → SpellsHas has q → p ≡ q
 one_has None p q h k = h ∙ sym k
 one_has (Some word) p q h k = one_spelled path_in word p q h k
 
-same_command : (cs ds : List Column) (p q : List Step) → cs ≡ ds → p ≡ q → ◌≡◌ {A = LinesCommand} (record { columns = cs; has = p }) (record { columns = ds; has = q })
-same_command cs ds p q e f = rw (e, f) refl
+same_command : (cs ds : List Column) (p q : List Step) (f g : RowFormat) (s t : Bool) → cs ≡ ds → p ≡ q → f ≡ g → s ≡ t
+    → ◌≡◌ {A = LinesCommand} (record { columns = cs; has = p; format = f; strict = s }) (record { columns = ds; has = q; format = g; strict = t })
+same_command cs ds p q f g s t a b c d = rw (a, b, c, d) refl
 
-by_parts : (parts : Option (List ℕ × Option (List ℕ))) (c d : LinesCommand) → MatchOption parts ⊥ (λ p. SpellsCommand p.0 p.1 c) → MatchOption parts ⊥ (λ p. SpellsCommand p.0 p.1 d) → c ≡ d
-by_parts None c d h k = absurd h
-by_parts (Some p) c d h k = same_command c.columns d.columns c.has d.has (one_spelled columns_in p.0 c.columns d.columns h.columns k.columns) (one_has p.1 c.has d.has h.has k.has)
+-- what was spelled by equal parts
+one_of_parts : (w w' : List ℕ) (h h' : Option (List ℕ)) (s s' : Bool) (f f' : RowFormat) (c d : LinesCommand) → w ≡ w' → h ≡ h' → s ≡ s' → f ≡ f' → SpellsCommand w h s f c → SpellsCommand w' h' s' f' d → c ≡ d
+one_of_parts w w' h h' s s' f f' c d ew eh es ef j k =
+    same_command c.columns d.columns c.has d.has c.format d.format c.strict d.strict (one_spelled columns_in w c.columns d.columns j.columns (subst (λ x. WordSpells columns_in x d.columns) (sym ew) k.columns))
+    (one_has h c.has d.has j.has (subst (λ x. SpellsHas x d.has) (sym eh) k.has)) (j.format_so ∙ ef ∙ sym k.format_so) (j.strict_so ∙ es ∙ sym k.strict_so)
 
 pub one_command : (arguments : List (List ℕ)) (c d : LinesCommand) → AsksForColumns arguments c → AsksForColumns arguments d → c ≡ d
-one_command arguments c d h k = by_parts (split_words arguments) c d h k
+one_command arguments c d h k =
+    let same = same_parts arguments (Some h.columns) (Some k.columns) h.has k.has h.strict k.strict h.csv k.csv h.words k.words in
+    one_of_parts h.columns k.columns h.has k.has h.strict k.strict (format_by h.csv) (format_by k.csv) c d (some_word h.columns k.columns same.0) same.1 same.2 (ap format_by same.3) h.spelled k.spelled

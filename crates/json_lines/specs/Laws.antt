@@ -21,8 +21,8 @@ OneLinesCommand = (arguments : List (List ℕ)) (c c' : LinesCommand) → AsksFo
 abbrev pub EndsWithNewline : List ℕ → Type 0
 EndsWithNewline bytes = (bytes ≡ []) ⊎ ((front : List ℕ) × (bytes ≡ front ++ 10 ∷ []))
 
--- what the command makes of these bytes, the first line of which has this number: the rows, the
--- errors, and whether some line is bad
+-- what the command makes of these bytes, the first line of which has this number, if it handles all
+-- lines: the rows below the header, the errors, and whether some line is bad
 pub record Filters (command : LinesCommand) (number : ℕ) (bytes rows errors : List ℕ) (bad : Bool) : Type 0 where
   pub outcomes : List Outcome
   pub have : HaveOutcomes command (lines bytes) outcomes

@@ -8,6 +8,7 @@ pub mod LineHandling
 pub mod Steps
 pub mod Running
 pub mod TopCall
+pub mod Csv
 pub mod Cells
 pub mod Outcomes
 pub mod Words

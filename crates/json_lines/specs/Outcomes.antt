@@ -1,5 +1,5 @@
 -- The outcome of each line, by the grammar of RFC 8259.
-use Rattle.std.specs.Prelude.{ℕ, ◌<◌, ◌≤◌, false, List, [], length}
+use Rattle.std.specs.Prelude.{ℕ, ◌<◌, ◌≤◌, false, List, [], ◌++◌, length}
 use Rattle.json_grammar.specs.Grammar.{ws, is_text}
 use Rattle.json_grammar.specs.Tree.{Tree, depth}
 use Rattle.json_io.specs.FaultText.{text_of}
@@ -7,8 +7,8 @@ use Rattle.json_text.specs.Ruled.{usual_rules}
 use Rattle.json_io.specs.declared.error.ErrorCode.{ErrorCode}
 use Rattle.json_io.specs.declared.error.Place.{Place}
 use Rattle.json_command.specs.Input.{InputFault}
-use Rattle.json_lines.specs.Cells.{LinesCommand, table_row}
-use Rattle.json_lines.specs.Rows.{Outcome, Row, Bad, AllHave, line_too_long}
+use Rattle.json_lines.specs.Cells.{LinesCommand, table_row, table_header}
+use Rattle.json_lines.specs.Rows.{Outcome, Row, Bad, AllHave, line_too_long, handled_by, rows_of}
 
 -- the maximum number of bytes of a line
 abbrev pub max_line : ℕ
@@ -27,3 +27,12 @@ pub data HasOutcome (command : LinesCommand) : List ℕ → Outcome → Type 0 w
 -- these lines have these outcomes, one each
 abbrev pub HaveOutcomes : LinesCommand → List (List ℕ) → List Outcome → Type 0
 HaveOutcomes command lines outcomes = AllHave (HasOutcome command) lines outcomes
+
+-- the outcomes of the lines that the command handles
+abbrev pub handled : LinesCommand → List Outcome → List Outcome
+handled command outcomes = handled_by command.strict outcomes
+
+-- what is written of lines of these outcomes: the header, and the rows of the lines that are
+-- handled
+abbrev pub table_text : LinesCommand → List Outcome → List ℕ
+table_text command outcomes = table_header command ++ rows_of (handled command outcomes)

@@ -1,5 +1,5 @@
 -- The outcomes of lines: a row of each good one, and an error of each bad one.
-use Rattle.std.specs.Prelude.{◌≡◌, ℕ, ◌+◌, ◌<◌, ◌≤◌, ◌⊎◌, Bool, true, false, ◌||◌, List, [], ◌∷◌, ◌++◌, length, codes, decimal, ⊤}
+use Rattle.std.specs.Prelude.{◌≡◌, ℕ, ◌+◌, ◌<◌, ◌≤◌, ◌⊎◌, Bool, true, false, ◌||◌, if◌then◌else◌, List, [], ◌∷◌, ◌++◌, length, codes, decimal, ⊤}
 use Rattle.std.specs.List.{flat_map}
 use Rattle.json_lines.specs.LineErrors.{line_error_text}
 use Rattle.json_lines.specs.declared.line_error.LineError.TheVariants.{LineTooLong}
@@ -42,6 +42,25 @@ errors_from number (outcome ∷ later) = error_bytes number outcome ++ errors_fr
 abbrev pub some_bad : List Outcome → Bool
 some_bad [] = false
 some_bad (outcome ∷ later) = is_bad outcome || some_bad later
+
+-- the outcomes up to the first bad one, and with it
+abbrev pub up_to_bad : List Outcome → List Outcome
+up_to_bad [] = []
+up_to_bad (Row bytes ∷ later) = Row bytes ∷ up_to_bad later
+up_to_bad (Bad text ∷ later) = Bad text ∷ []
+
+-- the outcomes of the lines that are handled: where the run is strict, of none after the first bad
+-- one
+abbrev pub handled_by : Bool → List Outcome → List Outcome
+handled_by strict outcomes = if strict then up_to_bad outcomes else outcomes
+
+-- whatever follows these outcomes, they are handled, and first
+abbrev pub AreHandledFirst : Bool → List Outcome → Type 0
+AreHandledFirst strict outcomes = (later : List Outcome) → (more : List Outcome) × (handled_by strict (outcomes ++ later) ≡ outcomes ++ more)
+
+-- whatever n outcomes follow these, only these are handled
+abbrev pub AreHandledAlone : Bool → List Outcome → ℕ → Type 0
+AreHandledAlone strict outcomes n = (later : List Outcome) → length later ≡ n → handled_by strict (outcomes ++ later) ≡ outcomes
 
 -- each line has its outcome
 abbrev pub AllHave : (List ℕ → Outcome → Type 0) → List (List ℕ) → List Outcome → Type 0

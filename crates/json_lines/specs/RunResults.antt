@@ -1,5 +1,5 @@
 -- What a run over lines does, for each status.
-use Rattle.std.specs.Prelude.{◌≡◌, ◌⊎◌, ℕ, ◌<◌, ◌≤◌, false, List, [], ◌++◌, length, Option, Some, IfSome, if◌then◌else◌}
+use Rattle.std.specs.Prelude.{◌≡◌, ◌⊎◌, ℕ, ◌<◌, ◌≤◌, true, false, List, [], ◌++◌, length, Option, Some, IfSome, if◌then◌else◌}
 use Rattle.json_io.specs.Errors.{bad_words, no_memory}
 use Rattle.json_io.specs.FaultText.{text_of}
 use Rattle.json_io.specs.Known.{Appends, if_known}
@@ -9,49 +9,63 @@ use Rattle.json_io.specs.declared.error.Error.{Error}
 use Rattle.json_lines.specs.Cells.{LinesCommand}
 use Rattle.json_lines.specs.Lines.{lines}
 use Rattle.json_lines.specs.Reading.{GivesBytes}
-use Rattle.json_lines.specs.Outcomes.{HaveOutcomes}
+use Rattle.json_lines.specs.Outcomes.{HaveOutcomes, handled, table_text}
 use Rattle.json_command.specs.Input.{max_bytes}
 use Rattle.json_command.specs.Reporting.{Reports}
-use Rattle.json_lines.specs.Rows.{Outcome, rows_of, errors_from, some_bad}
+use Rattle.json_lines.specs.Rows.{Outcome, errors_from, some_bad}
 use Rattle.json_lines.specs.TopCall.{Streams, RunErrorCause, run_status}
 use Rattle.json_lines.specs.Words.{AsksForColumns, IsLinesRequest}
 
 -- the words ask for a command, and where the bytes of the source are known, this holds of the
 -- outcomes of their lines
-pub record OfOutcomes (arguments : List (List ℕ)) (known : Option (List ℕ)) (holds : List Outcome → Type 0) : Type 0 where
+pub record OfOutcomes (arguments : List (List ℕ)) (known : Option (List ℕ)) (holds : LinesCommand → List Outcome → Type 0) : Type 0 where
   pub command : LinesCommand
   pub asked : AsksForColumns arguments command
-  pub so : IfSome known (λ bytes. (outcomes : List Outcome) × HaveOutcomes command (lines bytes) outcomes × holds outcomes)
+  pub so : IfSome known (λ bytes. (outcomes : List Outcome) × HaveOutcomes command (lines bytes) outcomes × holds command outcomes)
 
 -- ---- status 0 or 1: the run is complete
 
--- the source was read to its end, which came within the limit, no call of source or sink failed,
--- and the sink was flushed
-pub record ReadsAll (old new : Streams) : Type 0 where
+-- what the source gave is within the limit, no call of source or sink failed, and the sink was
+-- flushed
+pub record ReadsWell (old new : Streams) : Type 0 where
   pub bytes : List ℕ
   pub gives : GivesBytes old.source new.source bytes
   pub few : length bytes ≤ max_bytes
-  pub drained : new.source.left ≡ if_known old.source.left []
   pub read : new.source.faults ≡ old.source.faults
   pub written : new.sink.faults ≡ old.sink.faults
   pub flushed : new.sink.unflushed ≡ false
 
--- the sink gained exactly the rows of all lines
-abbrev pub AppendsRows : List (List ℕ) → Streams → Streams → Type 0
-AppendsRows arguments old new = OfOutcomes arguments old.source.left (λ outcomes. Appends old.sink.gained new.sink.gained (rows_of outcomes))
+-- the same, and the source was read to its end
+pub record ReadsAll (old new : Streams) : Type 0 where
+  pub well : ReadsWell old new
+  pub drained : new.source.left ≡ if_known old.source.left []
 
--- the error of each bad line was reported with its number, or a prefix of these errors where that
--- sink failed or memory ran out
+-- the words ask that the first bad line ends the run
+abbrev pub AsksForStrict : List (List ℕ) → Type 0
+AsksForStrict arguments = (command : LinesCommand) × AsksForColumns arguments command × (command.strict ≡ true)
+
+-- the same, and a bad line ended the run, as the words ask
+pub record StopsAtBad (arguments : List (List ℕ)) (old new : Streams) (status : ℕ) : Type 0 where
+  pub strict : AsksForStrict arguments
+  pub well : ReadsWell old new
+  pub bad : status ≡ 1
+
+-- the sink gained exactly the header and the rows of all lines that are handled
+abbrev pub AppendsRows : List (List ℕ) → Streams → Streams → Type 0
+AppendsRows arguments old new = OfOutcomes arguments old.source.left (λ command outcomes. Appends old.sink.gained new.sink.gained (table_text command outcomes))
+
+-- the error of each bad line that is handled was reported with its number, or a prefix of these
+-- errors where that sink failed or memory ran out
 abbrev pub TellsErrors : List (List ℕ) → Streams → Streams → Type 0
-TellsErrors arguments old new = OfOutcomes arguments old.source.left (λ outcomes. Reports (errors_from 1 outcomes) old.errs new.errs)
+TellsErrors arguments old new = OfOutcomes arguments old.source.left (λ command outcomes. Reports (errors_from 1 (handled command outcomes)) old.errs new.errs)
 
 -- the status says whether some line is bad
 abbrev pub StatusTellsBad : List (List ℕ) → Streams → ℕ → Type 0
-StatusTellsBad arguments old status = OfOutcomes arguments old.source.left (λ outcomes. status ≡ (if some_bad outcomes then 1 else 0))
+StatusTellsBad arguments old status = OfOutcomes arguments old.source.left (λ command outcomes. status ≡ (if some_bad outcomes then 1 else 0))
 
 pub record Completes (arguments : List (List ℕ)) (old new : Streams) (status : ℕ) : Type 0 where
   pub known : (status ≡ 0) ⊎ (status ≡ 1)
-  pub all : ReadsAll old new
+  pub all : ReadsAll old new ⊎ StopsAtBad arguments old new status
   pub rows : AppendsRows arguments old new
   pub errors : TellsErrors arguments old new
   pub bad : StatusTellsBad arguments old status
@@ -66,11 +80,11 @@ pub record RefusesWords (arguments : List (List ℕ)) (old new : Streams) : Type
 
 -- ---- status 4, 5, 6 or 7: the run failed
 
--- the sink gained a prefix of the rows of the lines of these bytes
+-- the sink gained a prefix of the header and the rows of the lines of these bytes that are handled
 pub record AppendsRowsPrefix (command : LinesCommand) (bytes : List ℕ) (old new : Streams) : Type 0 where
   pub outcomes : List Outcome
   pub have : HaveOutcomes command (lines bytes) outcomes
-  pub gained : AppendsFront old.sink.gained new.sink.gained (rows_of outcomes)
+  pub gained : AppendsFront old.sink.gained new.sink.gained (table_text command outcomes)
 
 -- the errors of the first of their lines were reported and then the error of the run, or a prefix
 -- of this where that sink failed or memory ran out
@@ -79,7 +93,7 @@ pub record TellsErrorsPrefix (command : LinesCommand) (bytes : List ℕ) (error 
   pub have : HaveOutcomes command (lines bytes) outcomes
   pub first : List Outcome
   pub later : List Outcome
-  pub parted : outcomes ≡ first ++ later
+  pub parted : handled command outcomes ≡ first ++ later
   pub reported : Reports (errors_from 1 first ++ text_of error) old.errs new.errs
 
 -- memory ran out before the words were known

@@ -1,19 +1,22 @@
 // Reads what the words of the command line ask for.
-ghost use Rattle.std.specs.Prelude.{◌≡◌, ◌≢◌, ◌⊎◌, ◌≤◌, List, ℕ, [], ◌∷◌, length, map, drop, cond, Some, None, IfOk, IfErr, MatchOption, option_map};
+ghost use Rattle.std.specs.Prelude.{◌≡◌, ◌≢◌, ◌⊎◌, ◌≤◌, List, ℕ, [], ◌∷◌, length, map, string_bytes, Some, None, IfOk, IfErr, MatchOption, option_map};
 ghost use Rattle.json_io.specs.Errors.{no_memory, bad_words};
 ghost use Rattle.json_io.specs.declared.error.ErrorCode.TheVariants.{NoMemory, TypeUnmatched};
 ghost use Rattle.json_tokens.specs.Refusals.{error_without_place as spec_refusal};
 ghost use Rattle.json_data.specs.Spelled.{Unspelled};
 ghost use Rattle.json_model.specs.Edit.{Step};
+ghost use Rattle.json_model.specs.Print.{shown};
 ghost use Rattle.json_value.specs.Denotes.{tree_of};
 ghost use Rattle.json_value.specs.Edits.{path_steps};
 ghost use Rattle.json_value.specs.EditTrees.{path_in, each_in};
 ghost use Rattle.json_value.specs.Seen.{seen, elements_seen};
 ghost use Rattle.json_lines.specs.Cells.{LinesCommand};
-ghost use Rattle.json_lines.specs.Tables.{cell_kind, table_column, table_command};
-ghost use Rattle.json_lines.specs.Words.{kind_named as spec_kind_named, kind_in, column_of_pair, column_in, columns_in, WordSpells, WordSpellsNothing, NoColumns, is_has_option, split_words, SpellsCommand, SpellsHas, AsksForColumns, IsLinesRequest};
+ghost use Rattle.json_lines.specs.Tables.{cell_kind, table_column, table_command, row_format as spec_row_format, Gathered};
+ghost use Rattle.json_lines.specs.Words.{kind_named as spec_kind_named, kind_in, column_of_pair, column_in, columns_in, WordSpells, WordSpellsNothing, NoColumns, format_by, SpellsCommand, SpellsHas, AsksForColumns, IsLinesRequest};
 
-use crate::table::{Column, ColumnKind, Table};
+use crate::cells::compact_text;
+use crate::gathered::{GatheredWords, gather};
+use crate::table::{Column, ColumnKind, RowFormat, Table};
 use json_command::{BAD_WORDS, arguments_error, read_argument};
 use json_data::from_value;
 use json_io::{Error, ErrorCode, Result, Words};
@@ -86,6 +89,22 @@ fn pair_of_elements<'a>(array: ArrayView<'a>) -> Option<(View<'a>, View<'a>)>
     Some((first, second))
 }
 
+// Reads the column of a path and of a kind that was read.
+fn named_column(alloc: Global, path: View<'_>, kind: ColumnKind) -> Result<Column>
+    ensures ok { IfOk result (λ c. (path_in (seen path.entry) ≡ Some (path_steps c.path))
+        × (c.kind ≡ kind) × (string_bytes c.name ≡ shown None 0 (seen path.entry))) }
+    ensures err { IfErr result (Unspelled (path_in (seen path.entry))) }
+{
+    let name = match compact_text(alloc, path) {
+        Ok(name) => name,
+        Err(error) => return Err(error),
+    };
+    match read_path_seen(alloc, path) {
+        Ok(path) => Ok(Column { path, kind, name }),
+        Err(error) => Err(error),
+    }
+}
+
 // Reads the column of a path and a kind.
 fn read_column_pair(alloc: Global, path: View<'_>, kind: View<'_>) -> Result<Column>
     ensures ok { IfOk result (λ c.
@@ -96,10 +115,7 @@ fn read_column_pair(alloc: Global, path: View<'_>, kind: View<'_>) -> Result<Col
     let Some(kind) = read_kind(kind) else {
         return Err(wrong_type());
     };
-    match read_path_seen(alloc, path) {
-        Ok(path) => Ok(Column { path, kind }),
-        Err(error) => Err(error),
-    }
+    named_column(alloc, path, kind)
 }
 
 // Reads a column, `[path, kind]`.
@@ -198,53 +214,55 @@ fn limited_columns(alloc: Global, word: &str) -> Result<Vec<Column>>
     Ok(columns)
 }
 
-// Reads the table of a columns word and the text of the option.
-fn read_table(alloc: Global, columns: &str, has: Option<&str>) -> Result<Table>
-    ensures ok { IfOk result (λ t.
-        SpellsCommand columns.now (option_map (λ s. s.now) has.entry) (table_command t)) }
+// Returns the format of rows.
+fn row_format(alloc: Global, csv: bool) -> RowFormat
+    ensures { spec_row_format result ≡ format_by csv }
+{
+    if csv {
+        RowFormat::Csv(alloc)
+    } else {
+        RowFormat::Tabbed
+    }
+}
+
+// Reads the table of a columns word and the texts of the options.
+fn read_table(
+    alloc: Global,
+    columns: &str,
+    has: Option<&str>,
+    strict: bool,
+    csv: bool,
+) -> Result<Table>
+    ensures ok { IfOk result (λ t. SpellsCommand columns.now (option_map (λ s. s.now) has.entry)
+        strict (format_by csv) (table_command t)) }
     ensures err { IfErr result (λ e. (e ≡ no_memory)
         ⊎ ((e ≡ bad_words)
-        × ((k : LinesCommand)
-        → ¬ (SpellsCommand columns.now (option_map (λ s. s.now) has.entry) k)))) }
+        × ((k : LinesCommand) → ¬ (SpellsCommand columns.now (option_map (λ s. s.now) has.entry)
+        strict (format_by csv) k)))) }
 {
     let columns = limited_columns(alloc, columns)?;
     match read_has(alloc, has) {
-        Ok(has) => Ok(Table { columns, has }),
+        Ok(has) => Ok(Table {
+            columns,
+            has,
+            format: row_format(alloc, csv),
+            strict,
+        }),
         Err(error) => Err(error),
     }
 }
 
-// Returns the text after `--has=`.
-fn has_option(word: &str) -> Option<&str>
-    ensures { option_map (λ s. s.now) result
-        ≡ cond (is_has_option word.now) (Some (drop 6 word.now)) None }
+// Reads the table that gathered words ask for.
+fn read_gathered(alloc: Global, words: GatheredWords<'_>) -> Result<Table>
+    ensures ok { IfOk result (λ t. (arguments : List (List ℕ))
+        → Gathered arguments words.entry → AsksForColumns arguments (table_command t)) }
+    ensures err { IfErr result (λ e. (e ≡ no_memory)
+        ⊎ ((e ≡ bad_words) × ((arguments : List (List ℕ))
+        → Gathered arguments words.entry → ¬ (IsLinesRequest arguments)))) }
 {
-    word.strip_prefix("--has=")
-}
-
-// Returns the columns word and the text of the option, of two words.
-fn split_pair<'a>(first: &'a str, second: &'a str) -> Option<(&'a str, Option<&'a str>)>
-    ensures { option_map (λ p. (p.0.now, option_map (λ s. s.now) p.1)) result
-        ≡ split_words (first.now ∷ second.now ∷ []) }
-{
-    if let Some(has) = has_option(first) {
-        return Some((second, Some(has)));
-    }
-    if let Some(has) = has_option(second) {
-        return Some((first, Some(has)));
-    }
-    None
-}
-
-// Returns the columns word and the text of the option, if any.
-fn split_words(arguments: &Words) -> Option<(&str, Option<&str>)>
-    ensures { option_map (λ p. (p.0.now, option_map (λ s. s.now) p.1)) result
-        ≡ split_words arguments.now }
-{
-    match arguments.len() {
-        1 => Some((arguments.word(0), None)),
-        2 => split_pair(arguments.word(0), arguments.word(1)),
-        _ => None,
+    match words.columns {
+        Some(columns) => read_table(alloc, columns, words.has, words.strict, words.csv),
+        None => Err(BAD_WORDS),
     }
 }
 
@@ -254,8 +272,8 @@ pub(crate) fn requested_table(alloc: Global, arguments: &Words) -> Result<Table>
     ensures err { IfErr result
         (λ e. (e ≡ no_memory) ⊎ ((e ≡ bad_words) × ¬ (IsLinesRequest arguments.now))) }
 {
-    match split_words(arguments) {
-        Some((columns, has)) => read_table(alloc, columns, has),
+    match gather(arguments) {
+        Some(words) => read_gathered(alloc, words),
         None => Err(BAD_WORDS),
     }
 }

@@ -2,6 +2,7 @@
 //! does nothing. The outcome of a line is its row, which is empty for a line that is skipped, or
 //! its error.
 ghost use Rattle.std.specs.Prelude.{List, ℕ};
+ghost use Rattle.json_lines.specs.Csv.{ReadsBack};
 ghost use Rattle.json_lines.specs.Laws.{SomeOutcome, OneOutcome, OneLinesCommand, LinesInPieces, PieceByPiece};
 ghost use Rattle.json_lines.specs.Lines.{LineByLine};
 
@@ -30,6 +31,12 @@ pub fn one_table()
 /// then the lines of the others.
 pub fn lines_in_pieces()
     ensures { LinesInPieces }
+{}
+
+/// States that a reader of CSV (RFC 4180, section 2) has the text of each field, and then the comma
+/// or the line break after the field.
+pub fn fields_read_back()
+    ensures { ReadsBack }
 {}
 
 /// States that bytes cut after a newline can be run in two pieces. The rows and errors of the whole

@@ -19,6 +19,8 @@
 
 mod asked;
 mod cells;
+mod csv;
+mod gathered;
 pub mod laws;
 mod line_error;
 mod line_reader;

@@ -1,5 +1,5 @@
 // Writes the row of each line, and reports the error of each bad one.
-ghost use Rattle.std.specs.Prelude.{◌≡◌, ◌+◌, ◌++◌, ◌<◌, ◌≤◌, [], List, ℕ, length, IfOk, IfErr, OnOk, Ok, Err, true, Bool, ◌⊎◌};
+ghost use Rattle.std.specs.Prelude.{◌≡◌, ◌+◌, ◌++◌, ◌<◌, ◌≤◌, [], List, ℕ, length, IfOk, IfErr, OnOk, Ok, Err, true, Bool, ◌⊎◌, ◌&&◌};
 ghost use Rattle.json_io.specs.Transfer.{Puts};
 ghost use Rattle.json_lines.specs.Rows.{Outcome, HasWithin, error_line};
 ghost use Rattle.json_lines.specs.Reading.{line_reader_state};
@@ -21,9 +21,24 @@ const MAX_LINE: usize = 1048576;
 /// What writes the row of a line.
 pub(crate) trait RowWriter<K: Sink> {
     ghost use Rattle.json_lines.specs.LineHandling.{WritesRow, RowFails};
+    ghost use Rattle.json_layout.specs.TextWriting.{WritesText};
 
     /// The outcomes that a line has: its row or its error.
     ghost has_outcome: { Self → List ℕ → Outcome → Type 0 };
+
+    /// What is written before all rows.
+    ghost header: { Self → List ℕ };
+
+    /// Whether the first bad line ends the run.
+    ghost strict: { Self → Bool };
+
+    /// Returns whether the run ends after a line; `bad` says whether some line so far is bad.
+    fn ends_after(&self, bad: bool) -> bool
+        ensures { result ≡ (strict self.now && bad) };
+
+    /// Writes what is before all rows to `sink`. Fails if writing fails or memory runs out.
+    fn write_header(&self, sink: &mut K) -> Result<()>
+        ensures { WritesText (K.state sink.old) (K.state sink.new) (header self.now) result };
 
     /// Writes the row of a good line to `sink` and returns `None`, or returns the error text of a
     /// bad line. The document of the line is read in `room`, whose memory serves line after line.
@@ -200,7 +215,7 @@ fn send_before_read<K: Sink>(reader: &LineReader, sink: &mut K) -> Result<()>
     }
 }
 
-// Reads and handles all lines.
+// Reads and handles all lines, or where the run is strict those up to the first bad one.
 fn write_rows<R: RowWriter<K>, S: Source, K: Sink, E: Sink>(
     run: &mut LineRun<'_, R>,
     source: &mut S,
@@ -214,12 +229,14 @@ fn write_rows<R: RowWriter<K>, S: Source, K: Sink, E: Sink>(
         (S.state source.old) (K.state sink.old) (E.state errs.old) tally.old) }
     ensures ok { OnOk result (FinishesLines
         (HasWithin (line_reader_state run.old.reader).limit (R.has_outcome run.old.room.rows.now))
+        (R.strict run.old.room.rows.now)
         (run_state run.old.reader
         (S.state source.old) (K.state sink.old) (E.state errs.old) tally.old)
         (run_state run.new.reader
         (S.state source.new) (K.state sink.new) (E.state errs.new) tally.new)) }
     ensures err { IfErr result (λ e. FailsEarly
         (HasWithin (line_reader_state run.old.reader).limit (R.has_outcome run.old.room.rows.now))
+        (R.strict run.old.room.rows.now)
         (run_state run.old.reader
         (S.state source.old) (K.state sink.old) (E.state errs.old) tally.old)
         (run_state run.new.reader
@@ -231,18 +248,19 @@ fn write_rows<R: RowWriter<K>, S: Source, K: Sink, E: Sink>(
             Err(error) => return Err(error),
         }
         match handle_next_line(run, source, sink, errs, tally) {
-            Ok(true) => {}
+            Ok(true) => {
+                if run.room.rows.ends_after(tally.bad) {
+                    return Ok(());
+                }
+            }
             Ok(false) => return Ok(()),
             Err(error) => return Err(error),
         }
     }
 }
 
-/// Writes the rows of all lines of `source` to `sink`, which is then flushed, and reports the
-/// errors of bad lines to `errs`. `tally` counts the lines and must be new.
-///
-/// Fails if reading or writing rows fails or memory runs out; rows written so far stay.
-pub(crate) fn write_all_rows<R: RowWriter<K>, S: Source, K: Sink, E: Sink>(
+// Writes the rows of all lines that are handled, and flushes the sink.
+fn write_lines<R: RowWriter<K>, S: Source, K: Sink, E: Sink>(
     rows: &R,
     source: &mut S,
     sink: &mut K,
@@ -250,11 +268,13 @@ pub(crate) fn write_all_rows<R: RowWriter<K>, S: Source, K: Sink, E: Sink>(
     tally: &mut LineTally,
 ) -> Result<()>
     requires { IsNewTally tally.old }
-    ensures ok { OnOk result (WritesAllRows (HasWithin 1048576 (R.has_outcome rows.now))
+    ensures ok { OnOk result (WritesAllRows
+        (HasWithin 1048576 (R.has_outcome rows.now)) (R.strict rows.now) []
         (streams (S.state source.old) (K.state sink.old) (E.state errs.old))
         (streams (S.state source.new) (K.state sink.new) (E.state errs.new))
         tally.new) }
-    ensures err { IfErr result (λ e. WritesFewerRows (HasWithin 1048576 (R.has_outcome rows.now))
+    ensures err { IfErr result (λ e. WritesFewerRows
+        (HasWithin 1048576 (R.has_outcome rows.now)) (R.strict rows.now) []
         (streams (S.state source.old) (K.state sink.old) (E.state errs.old))
         (streams (S.state source.new) (K.state sink.new) (E.state errs.new))
         tally.new e) }
@@ -266,6 +286,37 @@ pub(crate) fn write_all_rows<R: RowWriter<K>, S: Source, K: Sink, E: Sink>(
     let mut run = LineRun { reader, room };
     match write_rows(&mut run, source, sink, errs, tally) {
         Ok(()) => flush_all(sink),
+        Err(error) => Err(error),
+    }
+}
+
+/// Writes the header and the rows of all lines of `source` to `sink`, which is then flushed, and
+/// reports the errors of bad lines to `errs`. Where `rows` is strict, no line after the first bad
+/// one is handled. `tally` counts the lines and must be new.
+///
+/// Fails if reading or writing rows fails or memory runs out; rows written so far stay.
+pub(crate) fn write_all_rows<R: RowWriter<K>, S: Source, K: Sink, E: Sink>(
+    rows: &R,
+    source: &mut S,
+    sink: &mut K,
+    errs: &mut E,
+    tally: &mut LineTally,
+) -> Result<()>
+    requires { IsNewTally tally.old }
+    ensures ok { OnOk result (WritesAllRows
+        (HasWithin 1048576 (R.has_outcome rows.now)) (R.strict rows.now) (R.header rows.now)
+        (streams (S.state source.old) (K.state sink.old) (E.state errs.old))
+        (streams (S.state source.new) (K.state sink.new) (E.state errs.new))
+        tally.new) }
+    ensures err { IfErr result (λ e. WritesFewerRows
+        (HasWithin 1048576 (R.has_outcome rows.now)) (R.strict rows.now) (R.header rows.now)
+        (streams (S.state source.old) (K.state sink.old) (E.state errs.old))
+        (streams (S.state source.new) (K.state sink.new) (E.state errs.new))
+        tally.new e) }
+    ensures loan { (K.state sink.new).loan ≡ (K.state sink.old).loan }
+{
+    match rows.write_header(sink) {
+        Ok(()) => write_lines(rows, source, sink, errs, tally),
         Err(error) => Err(error),
     }
 }

@@ -1,11 +1,11 @@
 // The top call: words, a source, a sink and a sink of errors.
 ghost use Rattle.std.specs.Prelude.{◌≡◌, ◌≢◌, length, ◌+◌, ◌<◌, ◌≤◌, ◌⊎◌, List, ℕ, true, false, OnOk, IfErr, if◌then◌else◌};
-ghost use Rattle.json_lines.specs.Cells.{LinesCommand};
+ghost use Rattle.json_lines.specs.Cells.{LinesCommand, table_header};
 ghost use Rattle.json_lines.specs.Outcomes.{HasOutcome};
 ghost use Rattle.json_lines.specs.Reading.{GivesBytes};
 ghost use Rattle.json_lines.specs.Rows.{HasWithin};
 ghost use Rattle.json_lines.specs.Tables.{table_command};
-ghost use Rattle.json_lines.specs.RunResults.{ReadsAll, AppendsRows, TellsErrors, StatusTellsBad, RefusesWords, FailsRun, RunResult, NothingFails};
+ghost use Rattle.json_lines.specs.RunResults.{ReadsAll, StopsAtBad, AppendsRows, TellsErrors, StatusTellsBad, RefusesWords, FailsRun, RunResult, NothingFails};
 ghost use Rattle.json_lines.specs.TopCall.{IsNewTally, WritesAllRows, WritesPartOfTable, run_status as spec_run_status, streams};
 ghost use Rattle.json_lines.specs.Words.{AsksForColumns, IsLinesRequest};
 ghost use Rattle.json_command.specs.Input.{max_bytes};
@@ -21,7 +21,7 @@ use json_io::{Error, ErrorCode, LentSink, Place, Result, Sink, Source, Words};
 use json_layout::{BufferedWriter, WriteBuffer};
 use std::alloc::Global;
 
-// Writes the rows of all lines, through a buffer.
+// Writes the header and the rows of all lines that are handled, through a buffer.
 fn write_table<S: Source, K: Sink, E: Sink>(
     table: &Table,
     source: &mut S,
@@ -31,11 +31,13 @@ fn write_table<S: Source, K: Sink, E: Sink>(
 ) -> Result<()>
     requires { IsNewTally tally.old }
     ensures ok { OnOk result (WritesAllRows
-        (HasWithin 1048576 (HasOutcome (table_command table.now)))
+        (HasWithin 1048576 (HasOutcome (table_command table.now))) (table_command table.now).strict
+        (table_header (table_command table.now))
         (streams (S.state source.old) (K.state sink.old) (E.state errs.old))
         (streams (S.state source.new) (K.state sink.new) (E.state errs.new)) tally.new) }
     ensures err { IfErr result (λ e. WritesPartOfTable
-        (HasWithin 1048576 (HasOutcome (table_command table.now)))
+        (HasWithin 1048576 (HasOutcome (table_command table.now))) (table_command table.now).strict
+        (table_header (table_command table.now))
         (streams (S.state source.old) (K.state sink.old) (E.state errs.old))
         (streams (S.state source.new) (K.state sink.new) (E.state errs.new)) tally.new e) }
 {
@@ -130,31 +132,39 @@ fn run_arguments<S: Source, K: Sink, E: Sink>(
 /// Runs the whole JSON Lines program: writes a row to `sink` for each good line of `source`, and
 /// the error of each bad line to `errs`.
 ///
-/// `arguments` has one argument for the columns and, before or after it, optionally `--has=PATH`.
-/// The columns are a JSON array of 1 to 64 elements `[path, kind]`. A path, also that of `--has`,
-/// is a JSON array of keys and indexes; a kind is `"text"`, `"int"`, `"bool"` or `"json"`. A line
-/// has no row if the path of `--has` leads to no value in it.
+/// `arguments` has one argument for the columns and, before or after it, at most once each the
+/// options `--has=PATH`, `--csv` and `--strict`. The columns are a JSON array of 1 to 64 elements
+/// `[path, kind]`. A path, also that of `--has`, is a JSON array of keys and indexes; a kind is
+/// `"text"`, `"int"`, `"bool"` or `"json"`. A line has no row if the path of `--has` leads to no
+/// value in it.
 ///
 /// A row is a cell for each column, with tabs between them and a newline at the end. The kind says
 /// which values a cell shows: strings, integers, booleans, or all for `"json"`. A cell is the
 /// compact text of the value at its path, or `-` if there is no value of that kind.
 ///
+/// With `--csv` a row is a record of CSV (RFC 4180, section 2), which ends with CR and LF, and the
+/// first record is a header: for each column the compact text of its path. A string is a field as
+/// it is, and each other value by its compact text. A field is between double quotes if it has a
+/// comma, a double quote, CR or LF, or is the empty string. A field without a value of its kind has
+/// no byte.
+///
 /// Lines of whitespace alone are skipped. A line is bad if it has more than 1,048,576 bytes, or is
 /// not a JSON text (RFC 8259) of at most 254 levels in UTF-8. `errs` then gets the number of the
-/// line, counted from 1, and the error.
+/// line, counted from 1, and the error. With `--strict` the first bad line ends the run: no line
+/// after it has a row or an error.
 ///
 /// Returns the exit status:
 ///
 /// - 0: all lines are good.
-/// - 1: some line is bad; the rows of the others were written.
+/// - 1: some line is bad; the rows of the others were written, with `--strict` of those before it.
 /// - 2: the arguments have another form; nothing was read, and nothing written to `sink`.
 /// - 4: a read failed.
 /// - 5: a write failed.
 /// - 6: memory ran out.
 /// - 7: `source` has more than 4,294,967,295 bytes.
 ///
-/// On 4 to 7 `sink` has got a prefix of the rows. `errs` has got the errors of the first lines, and
-/// then the error of the run, as far as `errs` does not fail.
+/// On 4 to 7 `sink` has got a prefix of the header and the rows. `errs` has got the errors of the
+/// first lines, and then the error of the run, as far as `errs` does not fail.
 ///
 /// ```
 /// use json_lines::run_lines;
@@ -178,7 +188,10 @@ pub fn run_lines<S: Source, K: Sink, E: Sink>(
 ) -> u8
     ensures read { result < 2 → ReadsAll
         (streams (S.state source.old) (K.state sink.old) (E.state errs.old))
-        (streams (S.state source.new) (K.state sink.new) (E.state errs.new)) }
+        (streams (S.state source.new) (K.state sink.new) (E.state errs.new))
+        ⊎ StopsAtBad arguments.now
+        (streams (S.state source.old) (K.state sink.old) (E.state errs.old))
+        (streams (S.state source.new) (K.state sink.new) (E.state errs.new)) result }
     ensures rows { result < 2 → AppendsRows arguments.now
         (streams (S.state source.old) (K.state sink.old) (E.state errs.old))
         (streams (S.state source.new) (K.state sink.new) (E.state errs.new)) }

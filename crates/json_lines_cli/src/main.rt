@@ -7,13 +7,16 @@
 
 use json_command::Console;
 use json_lines::run_lines;
-use mezdruk_help::USAGE_LINES;
+use mezdruk_help::{USAGE_LINES, report_unread};
 use std::process::ExitCode;
 
 fn main(rt: HostRuntime) -> ExitCode {
     let mut console = match Console::open(&rt, &USAGE_LINES.about) {
         Ok(console) => console,
-        Err(status) => return ExitCode::from(status.number()),
+        Err(status) => {
+            report_unread(&rt, USAGE_LINES.program, status);
+            return ExitCode::from(status.number());
+        }
     };
     let (source, sink, errs) = (&mut console.source, &mut console.sink, &mut console.errs);
     let status = run_lines(rt.alloc(), &console.arguments, source, sink, errs);

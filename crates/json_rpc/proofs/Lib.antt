@@ -1,8 +1,11 @@
-pub mod Params
+pub mod PositionalParams
+pub mod RequestMembers
+pub mod ChangedDocuments
 pub mod Messages
 pub mod Replies
 pub mod ReplyTexts
 pub mod Batches
 pub mod ServingLaws
+pub mod UndoneChanges
 pub mod ServedLines
 pub mod RunResults

@@ -91,6 +91,10 @@ one_line_message TooLong m n h k = h ∙ sym k
 pub message_reads : (line : Line) (m : Message) → LineIsMessage line m → OnlyReads line → message_only_reads m ≡ true
 message_reads line m h o = ap message_only_reads (one_line_message line m o.message h o.is) ∙ o.reads
 
+-- whether a line only reads, by its message
+pub tells_reads : (line : Line) (m : Message) (b : Bool) → LineIsMessage line m → b ≡ message_only_reads m → IsTrue b ↔ OnlyReads line
+tells_reads line m b h e = (λ t. record { message = m; is = h; reads = sym e ∙ t }, λ o. e ∙ message_reads line m h o)
+
 pub some_message : SomeMessage
 some_message b = elim (cases_lt max_line_bytes (length b)) [ inl l ↦ (unreadable, inl l) | inr s ↦ by s (ws_or_not b) (some_fault b) ]
   where

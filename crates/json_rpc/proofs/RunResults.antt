@@ -24,6 +24,7 @@ use Rattle.json_lines.specs.Reading.{ReaderState, ReadsBytes, NextLineCause, fre
 use Rattle.json_lines.proofs.ReaderSteps.{gives_bytes, gives_nothing, few_bytes}
 use Rattle.json_lines.proofs.SinkEnds.{same_faults, ok_no_error, err_same, came_back, sink_grew}
 use Rattle.json_lines.proofs.Statuses.{cause-line, cause-flush}
+use Rattle.json_history.specs.History.{new_history}
 use Rattle.json_rpc.specs.Serving.{Message, max_line_bytes}
 use Rattle.json_rpc.specs.Sessions.{AreMessages, replies}
 use Rattle.json_rpc.specs.Steps.{ServingState, IsFreshServing, FinishesServing, StopsServing}
@@ -34,7 +35,7 @@ fresh_run s e = record { limit = ap (λ r. r.limit) e; held = ap (λ r. r.held) 
 
 -- ---- the last flush
 
-serves_all : (a c : ServingState) (out : SinkState) (u : Unit {0}) → IsFreshServing a → a.document ≡ null → FinishesServing a c → FlushesAll c.out out (Ok u) → ServesAll (service_streams a.source a.out) (service_streams c.source out)
+serves_all : (a c : ServingState) (out : SinkState) (u : Unit {0}) → IsFreshServing a → a.history ≡ new_history null → FinishesServing a c → FlushesAll c.out out (Ok u) → ServesAll (service_streams a.source a.out) (service_streams c.source out)
 serves_all a c out u fresh begins all flush =
     record {
       reads = record {
@@ -59,7 +60,7 @@ both_some : (o : Option (List ℕ)) (bytes : List ℕ) (ms : List Message) → I
 both_some None bytes ms e h = tt
 both_some (Some b) bytes ms e h = subst (λ b. AreMessages (lines b) ms) e h
 
-flush_stops : (a c : ServingState) (out : SinkState) (e : Error) → a.document ≡ null → FinishesServing a c → FlushesAll c.out out (Err e) → StopsBuffered (service_streams a.source a.out) (service_streams c.source out) e
+flush_stops : (a c : ServingState) (out : SinkState) (e : Error) → a.history ≡ new_history null → FinishesServing a c → FlushesAll c.out out (Err e) → StopsBuffered (service_streams a.source a.out) (service_streams c.source out) e
 flush_stops a c out e begins all flush =
     record {
       bytes = all.bytes;
@@ -74,11 +75,11 @@ flush_stops a c out e begins all flush =
       writing_told = λ l. err_same e writing_failed (flush.reported (omega (arith, l, all.writes.calm)));
     }
 
-pub flushed_ok : (a c : ServingState) (out : SinkState) (r : Result (Unit {0}) Error) → IsFreshServing a → a.document ≡ null → FinishesServing a c → FlushesAll c.out out r → OnOk r (ServesAll (service_streams a.source a.out) (service_streams c.source out))
+pub flushed_ok : (a c : ServingState) (out : SinkState) (r : Result (Unit {0}) Error) → IsFreshServing a → a.history ≡ new_history null → FinishesServing a c → FlushesAll c.out out r → OnOk r (ServesAll (service_streams a.source a.out) (service_streams c.source out))
 flushed_ok a c out (Ok u) fresh begins all flush = serves_all a c out u fresh begins all flush
 flushed_ok a c out (Err e) fresh begins all flush = tt
 
-pub flushed_err : (a c : ServingState) (out : SinkState) (r : Result (Unit {0}) Error) → a.document ≡ null → FinishesServing a c → FlushesAll c.out out r → IfErr r (λ e. StopsBuffered (service_streams a.source a.out) (service_streams c.source out) e)
+pub flushed_err : (a c : ServingState) (out : SinkState) (r : Result (Unit {0}) Error) → a.history ≡ new_history null → FinishesServing a c → FlushesAll c.out out r → IfErr r (λ e. StopsBuffered (service_streams a.source a.out) (service_streams c.source out) e)
 flushed_err a c out (Ok u) begins all flush = tt
 flushed_err a c out (Err e) begins all flush = flush_stops a c out e begins all flush
 
@@ -89,7 +90,7 @@ writing_cause bytes s s' a c NoMemory nowhere h = tt
 writing_cause bytes s s' a c Io Writing h = h
 writing_cause bytes s s' a c code place h = absurd h
 
-pub loop_stops : (a c : ServingState) (e : Error) → IsFreshServing a → a.document ≡ null → StopsServing a c e → StopsBuffered (service_streams a.source a.out) (service_streams c.source c.out) e
+pub loop_stops : (a c : ServingState) (e : Error) → IsFreshServing a → a.history ≡ new_history null → StopsServing a c e → StopsBuffered (service_streams a.source a.out) (service_streams c.source c.out) e
 loop_stops a c e fresh begins stop =
     let received : c.reader.received ≡ length stop.bytes = omega (arith, fresh.received, stop.reads.received_so) in
     record {
@@ -123,7 +124,7 @@ lent_stops s s' old new name held e g h =
       prefix = record {
         messages = h.messages;
         are = h.are;
-        gained = front_gained old.gained new.gained (replies null h.messages) _ (h.prefix.whole ∙ known-append new.gained held h.prefix.back) g;
+        gained = front_gained old.gained new.gained (replies (new_history null) h.messages) _ (h.prefix.whole ∙ known-append new.gained held h.prefix.back) g;
       };
       cause = h.cause;
       reading_reported = h.reading_reported;

@@ -14,6 +14,7 @@ use Rattle.json_lines.specs.Reading.{IsLineOf, NextLineCall}
 use Rattle.json_lines.proofs.HandledLines.{IfSome-map}
 use Rattle.json_lines.proofs.ReadingLines.{ReadsLines, ReadsLines-start, ReadsLines-more, ReadsLines-end, ReadsLines-fail, ReadsLines-parted}
 use Rattle.json_lines.proofs.TextWriting.{WritesText-nil, WritesText-then, WritesText-is, Begins-part}
+use Rattle.json_history.specs.History.{TreeHistory}
 use Rattle.json_rpc.specs.Serving.{Message, served, IsMessage, LineIsMessage, max_line_bytes}
 use Rattle.json_rpc.specs.Sessions.{AreMessages, session, reply_texts, replies, reply_text, ReplyFails}
 use Rattle.json_rpc.specs.Steps.{ServingState, ServesNextLine, ServesNoLine, ServingReadFails, ServingStepFails, IsFreshServing, FinishesServing, StopsServing}
@@ -37,28 +38,28 @@ reply_texts-append : (rs qs : List Tree) → reply_texts (rs ++ qs) ≡ reply_te
 reply_texts-append [] qs = refl
 reply_texts-append (r ∷ rs) qs = ap (λ t. (shown None 0 r ++ 10 ∷ []) ++ t) (reply_texts-append rs qs) ∙ sym (append_assoc (shown None 0 r ++ 10 ∷ []) (reply_texts rs) (reply_texts qs))
 
--- messages after others begin with the document that those left
-session-append : (t : Tree) (ms ns : List Message) → let first = session t ms in let later = session first.0 ns in session t (ms ++ ns) ≡ (later.0, first.1 ++ later.1)
+-- messages after others begin with the history that those left
+session-append : (t : TreeHistory) (ms ns : List Message) → let first = session t ms in let later = session first.0 ns in session t (ms ++ ns) ≡ (later.0, first.1 ++ later.1)
 session-append t [] ns = refl
 session-append t (m ∷ ms) ns =
     let one = served t m in
     let first = session one.0 ms in
     let later = session first.0 ns in
-    ap (λ (r : Tree × List Tree). (r.0, option_to_list one.1 ++ r.1)) (session-append one.0 ms ns) ∙ ap (λ xs. (later.0, xs)) (sym (append_assoc (option_to_list one.1) first.1 later.1))
+    ap (λ (r : TreeHistory × List Tree). (r.0, option_to_list one.1 ++ r.1)) (session-append one.0 ms ns) ∙ ap (λ xs. (later.0, xs)) (sym (append_assoc (option_to_list one.1) first.1 later.1))
 
-replies-append : (t : Tree) (ms ns : List Message) → replies t (ms ++ ns) ≡ replies t ms ++ replies (session t ms).0 ns
-replies-append t ms ns = ap (λ (r : Tree × List Tree). reply_texts r.1) (session-append t ms ns) ∙ reply_texts-append (session t ms).1 (session (session t ms).0 ns).1
+replies-append : (t : TreeHistory) (ms ns : List Message) → replies t (ms ++ ns) ≡ replies t ms ++ replies (session t ms).0 ns
+replies-append t ms ns = ap (λ (r : TreeHistory × List Tree). reply_texts r.1) (session-append t ms ns) ∙ reply_texts-append (session t ms).1 (session (session t ms).0 ns).1
 
 -- one message more
-document-more : (t u v : Tree) (ms : List Message) (m : Message) (reply : Option Tree) → u ≡ (session t ms).0 → served u m ≡ (v, reply) → v ≡ (session t (ms ++ m ∷ [])).0
-document-more t u v ms m reply e h =
-    sym (ap (λ (r : Tree × Option Tree). r.0) h) ∙ ap (λ u. (served u m).0) e ∙ sym (ap (λ (r : Tree × List Tree). r.0) (session-append t ms (m ∷ [])))
+history-more : (t u v : TreeHistory) (ms : List Message) (m : Message) (reply : Option Tree) → u ≡ (session t ms).0 → served u m ≡ (v, reply) → v ≡ (session t (ms ++ m ∷ [])).0
+history-more t u v ms m reply e h =
+    sym (ap (λ (r : TreeHistory × Option Tree). r.0) h) ∙ ap (λ u. (served u m).0) e ∙ sym (ap (λ (r : TreeHistory × List Tree). r.0) (session-append t ms (m ∷ [])))
 
-replies-more : (t u v : Tree) (ms : List Message) (m : Message) (ns : List Message) (reply : Option Tree) → u ≡ (session t ms).0 → served u m ≡ (v, reply) → replies t (ms ++ m ∷ ns) ≡ replies t ms ++ (reply_text reply ++ replies v ns)
+replies-more : (t u v : TreeHistory) (ms : List Message) (m : Message) (ns : List Message) (reply : Option Tree) → u ≡ (session t ms).0 → served u m ≡ (v, reply) → replies t (ms ++ m ∷ ns) ≡ replies t ms ++ (reply_text reply ++ replies v ns)
 replies-more t u v ms m ns reply e h =
     replies-append t ms (m ∷ ns) ∙ ap (λ u. replies t ms ++ replies u (m ∷ ns)) (sym e)
     ∙ ap (λ x. replies t ms ++ x) (reply_texts-append (option_to_list (served u m).1) (session (served u m).0 ns).1)
-    ∙ ap (λ (r : Tree × Option Tree). replies t ms ++ (reply_text r.1 ++ replies r.0 ns)) h
+    ∙ ap (λ (r : TreeHistory × Option Tree). replies t ms ++ (reply_text r.1 ++ replies r.0 ns)) h
 
 -- ---- the loop
 
@@ -69,8 +70,8 @@ pub record ServedLines (old new : ServingState) : Type 0 where
   pub limit : old.reader.limit ≡ max_line_bytes
   pub messages : List Message
   pub are : AreMessages done messages
-  pub document : new.document ≡ (session old.document messages).0
-  pub writes : WritesText old.out new.out (replies old.document messages) (Ok tt)
+  pub history : new.history ≡ (session old.history messages).0
+  pub writes : WritesText old.out new.out (replies old.history messages) (Ok tt)
 
 pub ServedLines-start : (a : ServingState) → IsFreshServing a → ServedLines a a
 ServedLines-start a fresh =
@@ -80,7 +81,7 @@ ServedLines-start a fresh =
       limit = fresh.limit;
       messages = [];
       are = tt;
-      document = refl;
+      history = refl;
       writes = WritesText-nil a.out;
     }
 
@@ -101,9 +102,9 @@ ServedLines-more a b c so_far takes =
       limit = so_far.limit;
       messages = so_far.messages ++ m ∷ [];
       are = AreMessages-append so_far.done (more.bytes ∷ []) so_far.messages (m ∷ []) so_far.are (line_is a.reader.limit more.bytes takes.line m so_far.limit more.is serves.is, tt);
-      document = document-more a.document b.document c.document so_far.messages m reply so_far.document serves.served_so;
+      history = history-more a.history b.history c.history so_far.messages m reply so_far.history serves.served_so;
       writes = WritesText-is a.out c.out _ _ _
-          (ap (λ y. replies a.document so_far.messages ++ y) (sym (append-nil (reply_text reply))) ∙ sym (replies-more a.document b.document c.document so_far.messages m [] reply so_far.document serves.served_so))
+          (ap (λ y. replies a.history so_far.messages ++ y) (sym (append-nil (reply_text reply))) ∙ sym (replies-more a.history b.history c.history so_far.messages m [] reply so_far.history serves.served_so))
           (WritesText-then a.out b.out c.out _ _ tt (Ok tt) so_far.writes takes.serves.writes);
     }
 
@@ -125,7 +126,7 @@ FinishesServing-from a b c so_far none =
       few = all.few;
       messages = so_far.messages;
       are = IfSome-map a.source.left (λ x. so_far.done ≡ lines x) (λ x. AreMessages (lines x) so_far.messages) (λ x is. subst (λ l. AreMessages l so_far.messages) is so_far.are) all.done_all;
-      writes = subst (λ s. WritesText a.out s (replies a.document so_far.messages) (Ok tt)) (sym none.out) so_far.writes;
+      writes = subst (λ s. WritesText a.out s (replies a.history so_far.messages) (Ok tt)) (sym none.out) so_far.writes;
     }
 
 -- ---- where it fails
@@ -135,7 +136,7 @@ all_are : (o : Option (List ℕ)) (all done later : List (List ℕ)) (ms ns : Li
 all_are o all done later ms ns h k e = IfSome-map o (λ _. all ≡ done ++ later) (λ _. AreMessages all (ms ++ ns)) (λ _ e. subst (λ l. AreMessages l (ms ++ ns)) (sym e) (AreMessages-append done later ms ns h k)) e
 
 -- the replies so far are a prefix of all replies
-first_replies : (t : Tree) (ms ns : List Message) (old new : Option (List ℕ)) → new ≡ append_known old (replies t ms) → BeginsWith new (append_known old (replies t (ms ++ ns)))
+first_replies : (t : TreeHistory) (ms ns : List Message) (old new : Option (List ℕ)) → new ≡ append_known old (replies t ms) → BeginsWith new (append_known old (replies t (ms ++ ns)))
 first_replies t ms ns old new h = subst (λ x. BeginsWith new (append_known old x)) (sym (replies-append t ms ns)) (Begins-part old new (replies t ms) (replies (session t ms).0 ns) h)
 
 StopsServing-reading : (a b c : ServingState) (e : Error) → ServedLines a b → ServingReadFails b c e → StopsServing a c e
@@ -148,7 +149,7 @@ StopsServing-reading a b c e so_far fails =
       reads = stop.reads;
       messages = so_far.messages ++ later.0;
       are = all_are a.source.left (lines stop.bytes) so_far.done stop.later so_far.messages later.0 so_far.are later.1 stop.parted;
-      prefix = first_replies a.document so_far.messages later.0 a.out.gained c.out.gained (ap (λ s. s.gained) same ∙ so_far.writes.ok);
+      prefix = first_replies a.history so_far.messages later.0 a.out.gained c.out.gained (ap (λ s. s.gained) same ∙ so_far.writes.ok);
       same_loan = ap (λ s. s.loan) same ∙ so_far.writes.same_loan;
       cause = inl stop.cause;
       reading_reported = stop.reported;
@@ -179,8 +180,8 @@ StopsServing-unserved a b c e line so_far read same lacks =
       reads = now.reads;
       messages = ms ++ rest.0;
       are = all_are a.source.left (lines now.bytes) done (lines c.reader.held) ms rest.0 are rest.1 (ReadsLines-parted a.reader c.reader a.source c.source done now);
-      prefix = subst (λ l. BeginsWith c.out.gained (append_known a.out.gained (replies a.document l))) (sym (append_assoc so_far.messages (later.0 ∷ []) rest.0))
-          (first_replies a.document so_far.messages (later.0 ∷ [] ++ rest.0) a.out.gained c.out.gained (ap (λ s. s.gained) same ∙ so_far.writes.ok));
+      prefix = subst (λ l. BeginsWith c.out.gained (append_known a.out.gained (replies a.history l))) (sym (append_assoc so_far.messages (later.0 ∷ []) rest.0))
+          (first_replies a.history so_far.messages (later.0 ∷ [] ++ rest.0) a.out.gained c.out.gained (ap (λ s. s.gained) same ∙ so_far.writes.ok));
       same_loan = ap (λ s. s.loan) same ∙ so_far.writes.same_loan;
       cause = inr (stops_for_memory a.out.faults c.out.faults e lacks, now.no_fault, now.few);
       reading_reported = λ l. absurd (omega (arith, l, now.no_fault));
@@ -192,7 +193,7 @@ longer_text : (x old : Option (List ℕ)) (p q : List ℕ) → BeginsWith x (app
 longer_text x old p q h = record { back = h.back ++ q; whole = sym (known-append old p q) ∙ ap (λ y. append_known y q) h.whole ∙ known-append x h.back q }
 
 -- a line whose reply was not written
-StopsServing-unwritten : (a b c : ServingState) (e : Error) (line : Line) → ServedLines a b → NextLineCall b.reader c.reader b.source c.source (Ok (Some line)) → ReplyFails b.document line c.document b.out c.out e → StopsServing a c e
+StopsServing-unwritten : (a b c : ServingState) (e : Error) (line : Line) → ServedLines a b → NextLineCall b.reader c.reader b.source c.source (Ok (Some line)) → ReplyFails b.history line c.history b.out c.out e → StopsServing a c e
 StopsServing-unwritten a b c e line so_far read fails =
     let more = ReadsLines-more a.reader b.reader c.reader a.source b.source c.source so_far.done line so_far.read read in
     let now = more.reads in
@@ -202,14 +203,14 @@ StopsServing-unwritten a b c e line so_far read fails =
     let rest = some_messages (lines c.reader.held) in
     let are = AreMessages-append so_far.done (more.bytes ∷ []) so_far.messages (m ∷ []) so_far.are (line_is a.reader.limit more.bytes line m so_far.limit more.is fails.serves.is, tt) in
     let writes = WritesText-then a.out b.out c.out _ _ tt (Err e) so_far.writes fails.writes in
-    let text = ap (replies a.document) (append_assoc so_far.messages (m ∷ []) rest.0) ∙ replies-more a.document b.document c.document so_far.messages m rest.0 fails.reply so_far.document fails.serves.served_so
-    ∙ sym (append_assoc (replies a.document so_far.messages) (reply_text fails.reply) (replies c.document rest.0)) in
+    let text = ap (replies a.history) (append_assoc so_far.messages (m ∷ []) rest.0) ∙ replies-more a.history b.history c.history so_far.messages m rest.0 fails.reply so_far.history fails.serves.served_so
+    ∙ sym (append_assoc (replies a.history so_far.messages) (reply_text fails.reply) (replies c.history rest.0)) in
     record {
       bytes = now.bytes;
       reads = now.reads;
       messages = ms ++ rest.0;
       are = all_are a.source.left (lines now.bytes) done (lines c.reader.held) ms rest.0 are rest.1 (ReadsLines-parted a.reader c.reader a.source c.source done now);
-      prefix = subst (λ t. BeginsWith c.out.gained (append_known a.out.gained t)) (sym text) (longer_text c.out.gained a.out.gained _ (replies c.document rest.0) writes.prefix);
+      prefix = subst (λ t. BeginsWith c.out.gained (append_known a.out.gained t)) (sym text) (longer_text c.out.gained a.out.gained _ (replies c.history rest.0) writes.prefix);
       same_loan = writes.same_loan;
       cause = inr (writes.cause, now.no_fault, now.few);
       reading_reported = λ l. absurd (omega (arith, l, now.no_fault));

@@ -8,6 +8,7 @@ use Rattle.json_grammar.specs.Tree.{Tree, null, boolean, num, text, list, pairs,
 use Rattle.json_model.specs.Edit.{Step, key_step, index_step, Changed, EditRefusal, not_found, type_unmatched, within, at_key, at_index, at_path}
 use Rattle.json_value.specs.Seen.{first_of}
 use Rattle.json_value.specs.Steps.{child, tree_at}
+use Rattle.json_history.specs.History.{TreeHistory}
 use Rattle.json_rpc.specs.Requests.{Request, named_member, request_of, version}
 use Rattle.json_rpc.specs.Methods.{tree_at_path}
 use Rattle.json_rpc.specs.Serving.{executed, responded, request_served, member_served, batch_served, batch_reply}
@@ -15,33 +16,33 @@ use Rattle.json_rpc.specs.Laws.{has_id, wants_response, NotificationHasNoReply, 
 use Rattle.json_rpc.specs.declared.error.RpcError.{RpcError}
 
 abbrev Outcome : Type 0
-Outcome = Result (Tree × Tree) RpcError
+Outcome = Result (TreeHistory × Tree) RpcError
 
 none_some : {A : Type 0} {x : A} → None ≡ Some x → ⊥
 none_some e = cc
 
 -- ---- one request
 
-no_reply : (t : Tree) (x : Outcome) → (responded t None x).1 ≡ None
+no_reply : (t : TreeHistory) (x : Outcome) → (responded t None x).1 ≡ None
 no_reply t (Ok d) = refl
 no_reply t (Err f) = refl
 
 pub notification_has_no_reply : NotificationHasNoReply
 notification_has_no_reply t u r e n = ap (λ o. (request_served t o).1) e ∙ ap (λ id. (responded t id (executed r t)).1) n ∙ no_reply t (executed r t)
 
-same_document : (t : Tree) (i j : Option Tree) (x : Outcome) → (responded t i x).0 ≡ (responded t j x).0
-same_document t i j (Ok d) = refl
-same_document t i j (Err f) = refl
+same_effect : (t : TreeHistory) (i j : Option Tree) (x : Outcome) → (responded t i x).0 ≡ (responded t j x).0
+same_effect t i j (Ok d) = refl
+same_effect t i j (Err f) = refl
 
 pub notification_has_its_effect : NotificationHasItsEffect
 notification_has_its_effect t u v r s e f m p =
     let x : executed r t ≡ executed s t = ap₂ (λ m p. executed (record { method = m; params = p; id = None }) t) m p in
-    ap (λ o. (request_served t o).0) e ∙ same_document t r.id s.id (executed r t) ∙ ap (λ x. (responded t s.id x).0) x ∙ sym (ap (λ o. (request_served t o).0) f)
+    ap (λ o. (request_served t o).0) e ∙ same_effect t r.id s.id (executed r t) ∙ ap (λ x. (responded t s.id x).0) x ∙ sym (ap (λ o. (request_served t o).0) f)
 
 abbrev HasId : Option Tree → Tree → Type 0
 HasId id reply = (named_member (codes "id") reply ≡ id) × (named_member (codes "jsonrpc") reply ≡ Some (text version))
 
-with_id : (t reply : Tree) (id : Option Tree) (x : Outcome) → (responded t id x).1 ≡ Some reply → HasId id reply
+with_id : (t : TreeHistory) (reply : Tree) (id : Option Tree) (x : Outcome) → (responded t id x).1 ≡ Some reply → HasId id reply
 with_id t reply None (Ok d) e = absurd (none_some e)
 with_id t reply None (Err f) e = absurd (none_some e)
 with_id t reply (Some i) (Ok d) e = subst (λ o. IfSome o (HasId (Some i))) e (refl, refl)
@@ -61,7 +62,7 @@ invalid_leaves_the_document t u e = ap (λ o. (request_served t o).0) e
 
 -- ---- batches
 
-one_or_none : (t : Tree) (o : Option Request) → length (option_to_list (request_served t o).1) ≡ cond (wants_response o) 1 0
+one_or_none : (t : TreeHistory) (o : Option Request) → length (option_to_list (request_served t o).1) ≡ cond (wants_response o) 1 0
 one_or_none t None = refl
 one_or_none t (Some r) = by r.id (executed r t)
   where
@@ -84,7 +85,7 @@ batch_in_turn t (u ∷ us) vs =
     let one = member_served t u in
     let first = batch_served one.0 us in
     let later = batch_served first.0 vs in
-    ap (λ (r : Tree × List Tree). (r.0, option_to_list one.1 ++ r.1)) (batch_in_turn one.0 us vs) ∙ ap (λ xs. (later.0, xs)) (sym (append_assoc (option_to_list one.1) first.1 later.1))
+    ap (λ (r : TreeHistory × List Tree). (r.0, option_to_list one.1 ++ r.1)) (batch_in_turn one.0 us vs) ∙ ap (λ xs. (later.0, xs)) (sym (append_assoc (option_to_list one.1) first.1 later.1))
 
 none_of : (rs : List Tree) → length rs ≡ 0 → batch_reply rs ≡ None
 none_of [] e = refl

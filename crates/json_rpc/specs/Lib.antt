@@ -1,6 +1,7 @@
 pub mod Requests
 pub mod Responses
 pub mod ReplyTexts
+pub mod Params
 pub mod Methods
 pub mod Serving
 pub mod Denoted

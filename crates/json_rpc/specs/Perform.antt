@@ -3,8 +3,9 @@ use Rattle.std.specs.Prelude.{◌≡◌, Result, Ok, Err}
 use Rattle.json_grammar.specs.Tree.{Tree}
 use Rattle.json_doc.specs.declared.json_type.JsonType.{JsonType}
 use Rattle.json_doc.specs.declared.json_type.JsonType.TheVariants.{Array, Object}
-use Rattle.json_model.specs.Edit.{Step, key_step, index_step, Edit, EditRefusal, edited_once}
-use Rattle.json_rpc.specs.Methods.{rpc_error_of}
+use Rattle.json_model.specs.Edit.{Step, key_step, index_step}
+use Rattle.json_history.specs.History.{TreeHistory, after_edit}
+use Rattle.json_rpc.specs.Methods.{DocumentChange, document_after}
 use Rattle.json_rpc.specs.declared.error.RpcError.{RpcError}
 
 -- the type of the values that a step leads into
@@ -12,7 +13,12 @@ abbrev pub container_type : Step → JsonType
 container_type (key_step k) = Object
 container_type (index_step i) = Array
 
--- the edit was applied, or does not apply for this reason
-abbrev pub Applies : Tree → Edit → Tree → Result (Unit {0}) RpcError → Type 0
-Applies t e u (Ok done) = edited_once e t ≡ Ok u
-Applies t e u (Err f) = (why : EditRefusal) × (edited_once e t ≡ Err why) × (f ≡ rpc_error_of why) × (u ≡ t)
+-- the change was made, or it does not apply, and the document is left for this error
+abbrev pub ChangesDocument : Tree → DocumentChange → Tree → Result (Unit {0}) RpcError → Type 0
+ChangesDocument t c u (Ok done) = document_after c t ≡ Ok u
+ChangesDocument t c u (Err f) = (document_after c t ≡ Err f) × (u ≡ t)
+
+-- the same of a document with its history: a change that was made can be undone
+abbrev pub ChangesHistory : TreeHistory → DocumentChange → TreeHistory → Result (Unit {0}) RpcError → Type 0
+ChangesHistory h c g (Ok done) = (document_after c h.now ≡ Ok g.now) × (g ≡ after_edit h (Ok g.now))
+ChangesHistory h c g (Err f) = (document_after c h.now ≡ Err f) × (g ≡ h)

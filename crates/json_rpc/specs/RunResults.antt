@@ -15,6 +15,7 @@ use Rattle.json_command.specs.Reporting.{Reports}
 use Rattle.json_lines.specs.Lines.{lines}
 use Rattle.json_lines.specs.Reading.{GivesBytes}
 use Rattle.json_lines.specs.TopCall.{ErrorCause, run_status}
+use Rattle.json_history.specs.History.{new_history}
 use Rattle.json_rpc.specs.Serving.{Message}
 use Rattle.json_rpc.specs.Sessions.{AreMessages, replies}
 
@@ -36,11 +37,11 @@ pub record ReadsWholeSource (old new : ServiceStreams) : Type 0 where
   pub drained : new.source.left ≡ if_known old.source.left []
   pub read : new.source.faults ≡ old.source.faults
 
--- the sink gained exactly the replies to all lines, where the document was null
+-- the sink gained exactly the replies to all lines, where the document was null and new
 pub record AppendsReplies (old new : ServiceStreams) : Type 0 where
   pub messages : List Message
   pub are : IfSome old.source.left (λ b. AreMessages (lines b) messages)
-  pub gained : Appends old.sink.gained new.sink.gained (replies null messages)
+  pub gained : Appends old.sink.gained new.sink.gained (replies (new_history null) messages)
 
 -- no write failed, and the sink was flushed
 pub record WritesAll (old new : ServiceStreams) : Type 0 where
@@ -62,7 +63,7 @@ ServingErrorCause bytes old new code place = ErrorCause bytes old.source new.sou
 pub record AppendsRepliesPrefix (bytes : List ℕ) (old new : ServiceStreams) : Type 0 where
   pub messages : List Message
   pub are : IfSome old.source.left (λ _. AreMessages (lines bytes) messages)
-  pub gained : AppendsFront old.sink.gained new.sink.gained (replies null messages)
+  pub gained : AppendsFront old.sink.gained new.sink.gained (replies (new_history null) messages)
 
 pub record StopsRun (old new : ServiceStreams) (error : Error) : Type 0 where
   pub bytes : List ℕ
@@ -79,7 +80,7 @@ pub record StopsBuffered (old new : ServiceStreams) (error : Error) : Type 0 whe
   pub gives : GivesBytes old.source new.source bytes
   pub messages : List Message
   pub are : IfSome old.source.left (λ _. AreMessages (lines bytes) messages)
-  pub prefix : BeginsWith new.sink.gained (append_known old.sink.gained (replies null messages))
+  pub prefix : BeginsWith new.sink.gained (append_known old.sink.gained (replies (new_history null) messages))
   pub same_loan : new.sink.loan ≡ old.sink.loan
   pub cause : ServingErrorCause bytes old new error.code error.place
   pub reading_reported : old.source.faults < new.source.faults → error ≡ reading_failed

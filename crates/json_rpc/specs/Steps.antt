@@ -1,6 +1,5 @@
 -- What one step of the loop over lines does, and all of them.
 use Rattle.std.specs.Prelude.{◌≡◌, ◌⊎◌, ℕ, ◌<◌, ◌≤◌, Bool, true, false, List, [], None, Some, Ok, Err, IfSome}
-use Rattle.json_grammar.specs.Tree.{Tree}
 use Rattle.json_io.specs.declared.error.Error.{Error}
 use Rattle.json_io.specs.Errors.{reading_failed, writing_failed}
 use Rattle.json_io.specs.Known.{append_known, if_known}
@@ -10,6 +9,7 @@ use Rattle.json_command.specs.Input.{max_bytes}
 use Rattle.json_lines.specs.declared.line_reader.Line.{Line}
 use Rattle.json_lines.specs.Lines.{lines}
 use Rattle.json_lines.specs.Reading.{ReaderState, NextLineCall, ReadsBytes, NextLineCause}
+use Rattle.json_history.specs.History.{TreeHistory}
 use Rattle.json_rpc.specs.Serving.{Message, max_line_bytes}
 use Rattle.json_rpc.specs.Sessions.{AreMessages, replies, ServesLine, ServingFails}
 
@@ -18,7 +18,7 @@ pub record ServingState : Type 0 where
   pub reader : ReaderState
   pub source : SourceState
   pub out : SinkState
-  pub document : Tree
+  pub history : TreeHistory
 
 -- ---- one step
 
@@ -26,13 +26,13 @@ pub record ServingState : Type 0 where
 pub record ServesNextLine (old new : ServingState) : Type 0 where
   pub line : Line
   pub read : NextLineCall old.reader new.reader old.source new.source (Ok (Some line))
-  pub serves : ServesLine old.document line new.document old.out new.out
+  pub serves : ServesLine old.history line new.history old.out new.out
 
 -- there was no further line
 pub record ServesNoLine (old new : ServingState) : Type 0 where
   pub read : NextLineCall old.reader new.reader old.source new.source (Ok None)
   pub out : new.out ≡ old.out
-  pub document : new.document ≡ old.document
+  pub history : new.history ≡ old.history
 
 abbrev pub ServingStepResult : ServingState → ServingState → Bool → Type 0
 ServingStepResult old new true = ServesNextLine old new
@@ -47,7 +47,7 @@ pub record ServingReadFails (old new : ServingState) (error : Error) : Type 0 wh
 pub record ServingLineFails (old new : ServingState) (error : Error) : Type 0 where
   pub line : Line
   pub read : NextLineCall old.reader new.reader old.source new.source (Ok (Some line))
-  pub failed : ServingFails old.document line new.document old.out new.out error
+  pub failed : ServingFails old.history line new.history old.out new.out error
 
 abbrev pub ServingStepFails : ServingState → ServingState → Error → Type 0
 ServingStepFails old new error = ServingReadFails old new error ⊎ ServingLineFails old new error
@@ -71,7 +71,7 @@ pub record FinishesServing (old new : ServingState) : Type 0 where
   pub few : new.reader.received ≤ max_bytes
   pub messages : List Message
   pub are : IfSome old.source.left (λ b. AreMessages (lines b) messages)
-  pub writes : WritesText old.out new.out (replies old.document messages) (Ok tt)
+  pub writes : WritesText old.out new.out (replies old.history messages) (Ok tt)
 
 -- why the loop failed
 abbrev pub LoopErrorCause : ServingState → ServingState → Error → Type 0
@@ -85,7 +85,7 @@ pub record StopsServing (old new : ServingState) (error : Error) : Type 0 where
   pub reads : ReadsBytes old.reader new.reader old.source new.source bytes
   pub messages : List Message
   pub are : IfSome old.source.left (λ _. AreMessages (lines bytes) messages)
-  pub prefix : BeginsWith new.out.gained (append_known old.out.gained (replies old.document messages))
+  pub prefix : BeginsWith new.out.gained (append_known old.out.gained (replies old.history messages))
   pub same_loan : new.out.loan ≡ old.out.loan
   pub cause : LoopErrorCause old new error
   -- a failed call is always reported

@@ -1,7 +1,7 @@
 // The errors of JSON-RPC.
 ghost use Rattle.std.specs.Prelude.{◌≡◌};
 ghost use Rattle.std.specs.Fmt.{signed_decimal};
-ghost use Rattle.json_rpc.specs.Responses.{error_code, read_line};
+ghost use Rattle.json_rpc.specs.Responses.{error_code, error_message};
 
 /// An error that a response object carries (JSON-RPC 2.0, section 5.1).
 ///
@@ -17,15 +17,20 @@ pub enum RpcError {
     ParseError,
     /// The value is not a valid request object (section 4), or is an empty array (section 6).
     InvalidRequest,
-    /// The method is none of `get`, `set`, `insert`, `push` and `remove`.
+    /// The method is none of `get`, `set`, `insert`, `push`, `remove`, `patch`, `merge`, `undo` and
+    /// `redo`.
     MethodNotFound,
-    /// The parameters are missing, are given by name, or do not have the form that the method
-    /// requires.
+    /// The parameters are not those of the method: one is missing, there is another one, or one does
+    /// not have the form that the method requires, as a patch that is not an array of operations
+    /// (RFC 6902, sections 3 and 4).
     InvalidParams,
-    /// A key or an index of the path, or the one to remove, is not in the document.
+    /// A key or an index of the path or of a pointer, or the one to remove, is not in the document.
     NotFound,
-    /// The path or the method requires an array or an object, and the value there has another type.
+    /// The path, a pointer or the method requires an array or an object, and the value there has
+    /// another type.
     TypeUnmatched,
+    /// An operation `test` of a patch found another value than its own (RFC 6902, section 4.6).
+    TestFailed,
 }
 
 impl RpcError {
@@ -40,12 +45,13 @@ impl RpcError {
             RpcError::InvalidParams => -32602,
             RpcError::NotFound => -32000,
             RpcError::TypeUnmatched => -32001,
+            RpcError::TestFailed => -32002,
         }
     }
 
     /// Returns the `message` of the error object, a short phrase without a full stop.
     pub fn message(self) -> &'static str
-        ensures { result.now ≡ read_line self }
+        ensures { result.now ≡ error_message self }
     {
         match self {
             RpcError::ParseError => "Parse error",
@@ -54,6 +60,7 @@ impl RpcError {
             RpcError::InvalidParams => "Invalid params",
             RpcError::NotFound => "Not found",
             RpcError::TypeUnmatched => "Type unmatched",
+            RpcError::TestFailed => "Test failed",
         }
     }
 }

@@ -1,6 +1,6 @@
 //! Examples of requests and their replies. Each function does nothing; its contract states the
 //! example.
-ghost use Rattle.json_rpc.specs.Examples.{SetsTheRoot, NotifiesInVain, NotifiesWithEffect, ServesABatch, CannotRead, SaysNothing, EmptyBatch, InvalidBatch, NotifiesAll, MethodIsNoText, UnknownMethod, MissingParam, ParamsByName, GetsNothing, AnotherKind, FirstCounts};
+ghost use Rattle.json_rpc.specs.Examples.{SetsTheRoot, NotifiesInVain, NotifiesWithEffect, ParamsByName, NamesInAnyOrder, AppliesAPatch, AppliesAMergePatch, UndoesAndRedoes, NothingToUndo, ServesABatch, CannotRead, SaysNothing, EmptyBatch, InvalidBatch, NotifiesAll, MethodIsNoText, UnknownMethod, MissingParam, MissingName, UnknownName, RepeatedName, ParamForUndo, GetsNothing, AnotherKind, PatchTestFails, PatchFindsNothing, NoOperations, FirstCounts};
 
 /// Shows that `set` at the root has the result null.
 pub fn sets_the_root()
@@ -15,6 +15,36 @@ pub fn notifies_in_vain()
 /// Shows that a notification whose edit applies has no reply either.
 pub fn notifies_with_effect()
     ensures { NotifiesWithEffect }
+{}
+
+/// Shows the response to a parameter by name.
+pub fn params_by_name()
+    ensures { ParamsByName }
+{}
+
+/// Shows that parameters by name come in any order.
+pub fn names_in_any_order()
+    ensures { NamesInAnyOrder }
+{}
+
+/// Shows the response to a patch that applies.
+pub fn applies_a_patch()
+    ensures { AppliesAPatch }
+{}
+
+/// Shows the response to a merge patch.
+pub fn applies_a_merge_patch()
+    ensures { AppliesAMergePatch }
+{}
+
+/// Shows the responses to `undo` and `redo` after a change.
+pub fn undoes_and_redoes()
+    ensures { UndoesAndRedoes }
+{}
+
+/// Shows the response to `undo` where nothing was changed.
+pub fn nothing_to_undo()
+    ensures { NothingToUndo }
 {}
 
 /// Shows the responses to a batch of a request and a number.
@@ -62,9 +92,24 @@ pub fn missing_param()
     ensures { MissingParam }
 {}
 
-/// Shows the response to parameters by name, which no method accepts.
-pub fn params_by_name()
-    ensures { ParamsByName }
+/// Shows the response to a request by name in which a parameter is missing.
+pub fn missing_name()
+    ensures { MissingName }
+{}
+
+/// Shows the response to a parameter whose name is none of the method's.
+pub fn unknown_name()
+    ensures { UnknownName }
+{}
+
+/// Shows the response to a parameter that occurs twice.
+pub fn repeated_name()
+    ensures { RepeatedName }
+{}
+
+/// Shows the response to `undo` with a parameter.
+pub fn param_for_undo()
+    ensures { ParamForUndo }
 {}
 
 /// Shows the response to a `get` whose path leads to a key that is not there.
@@ -75,6 +120,21 @@ pub fn missing_key()
 /// Shows the response to an `insert` into a number.
 pub fn another_kind()
     ensures { AnotherKind }
+{}
+
+/// Shows that a patch in which an operation `test` fails has no effect.
+pub fn patch_test_fails()
+    ensures { PatchTestFails }
+{}
+
+/// Shows the response to a patch with a pointer that leads to nothing.
+pub fn patch_finds_nothing()
+    ensures { PatchFindsNothing }
+{}
+
+/// Shows the response to a patch that is not an array of operations.
+pub fn no_operations()
+    ensures { NoOperations }
 {}
 
 /// Shows that the first of several members with the same name counts.

@@ -13,12 +13,14 @@
 //! ```
 #![tactic(auto)]
 
+mod document_change;
 mod error;
 pub mod examples;
 pub mod laws;
 mod lines;
 mod message;
 mod operation;
+mod params;
 mod perform;
 mod reply;
 mod request;
@@ -28,5 +30,6 @@ mod serve;
 mod service;
 
 pub use error::RpcError;
+pub use message::MAX_LINE_BYTES;
 pub use run::run_rpc;
-pub use service::Service;
+pub use service::{Service, line_only_reads};

@@ -1,7 +1,7 @@
 // Serves the lines of a source, one after another.
 ghost use Rattle.std.specs.Prelude.{OnOk, IfOk, IfErr};
 ghost use Rattle.json_lines.specs.Reading.{line_reader_state};
-ghost use Rattle.json_rpc.specs.Denoted.{document_of, serving_state};
+ghost use Rattle.json_rpc.specs.Denoted.{service_history, serving_state};
 ghost use Rattle.json_rpc.specs.Steps.{ServingStepResult, ServingStepFails, IsFreshServing, FinishesServing, StopsServing};
 
 use crate::reply::serve_line;
@@ -24,13 +24,13 @@ fn serve_next_line<S: Source, W: Sink>(
           reader = line_reader_state reader.old;
           source = S.state source.old;
           out = ⟦<BufferedWriter<W> as Sink>⟧.state out.old;
-          document = document_of service.old;
+          history = service_history service.old;
         })
         (record {
           reader = line_reader_state reader.new;
           source = S.state source.new;
           out = ⟦<BufferedWriter<W> as Sink>⟧.state out.new;
-          document = document_of service.new;
+          history = service_history service.new;
         })
         more) }
     ensures err { IfErr result (λ e. ServingStepFails
@@ -38,13 +38,13 @@ fn serve_next_line<S: Source, W: Sink>(
           reader = line_reader_state reader.old;
           source = S.state source.old;
           out = ⟦<BufferedWriter<W> as Sink>⟧.state out.old;
-          document = document_of service.old;
+          history = service_history service.old;
         })
         (record {
           reader = line_reader_state reader.new;
           source = S.state source.new;
           out = ⟦<BufferedWriter<W> as Sink>⟧.state out.new;
-          document = document_of service.new;
+          history = service_history service.new;
         })
         e) }
 {

@@ -12,7 +12,12 @@ use json_value::Value;
 use std::alloc::Global;
 
 /// The greatest number of bytes of a line that is read. A longer one is unreadable.
-pub(crate) const MAX_LINE_BYTES: usize = 1_048_576;
+///
+/// ```
+/// use json_rpc::MAX_LINE_BYTES;
+/// assert_eq!(rt; MAX_LINE_BYTES, 1_048_576);
+/// ```
+pub const MAX_LINE_BYTES: usize = 1_048_576;
 
 /// How a line was read.
 #[derive(Drop)]

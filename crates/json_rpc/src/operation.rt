@@ -1,27 +1,32 @@
 // The methods and their params.
-ghost use Rattle.std.specs.Prelude.{◌≡◌, ◌≢◌, [], ◌∷◌, length, IfOk, MatchOption, codes, option_map, ok_or};
+ghost use Rattle.std.specs.Prelude.{◌≡◌, IfOk, codes, option_map, ok_or};
 ghost use Rattle.std.specs.Result.{result_map_both};
 ghost use Rattle.json_number.specs.Numbers.{value_of};
 ghost use Rattle.json_value.specs.Edits.{step_of, path_steps};
 ghost use Rattle.json_value.specs.EditTrees.{each_in, index_of, step_in, path_in};
 ghost use Rattle.json_value.specs.Seen.{seen, elements_seen};
-ghost use Rattle.json_rpc.specs.Methods.{is_edit, positional_params, operation_with, requested_operation};
+ghost use Rattle.json_rpc.specs.Methods.{is_change, method_operation, requested_operation};
 ghost use Rattle.json_rpc.specs.Denoted.{request_seen, operation_denoted};
 ghost use Rattle.json_rpc.specs.declared.error.RpcError.TheVariants.{InvalidParams};
 ghost use Rattle.json_io.specs.Errors.{OnlyNoMemory};
 
+use crate::document_change::DocumentChange;
 use crate::error::RpcError;
+use crate::params::{has_no_params, one_param, three_params, two_params};
 use crate::request::Request;
 use json_io::Result;
 use json_number::{JsonNumberTrait, Number};
 use json_value::{ArrayView, Edit, Path, PointerNode, Text, View};
 use std::alloc::Global;
 
-/// What a request asks of the document: a value, or an edit.
+/// What a request asks of the document: a value, a change, or that the last change is undone or
+/// redone.
 #[derive(Drop)]
 pub(crate) enum RequestedOperation {
     Get(Path),
-    Change(Edit),
+    Change(DocumentChange),
+    Undo,
+    Redo,
 }
 
 // Returns the index that a number is; `None` if it is no integer from 0 to 2^32 - 1.
@@ -75,64 +80,13 @@ fn try_read_path(alloc: Global, view: View<'_>) -> Result<Option<Path>>
     }
 }
 
-// Returns the array of params by position; `None` if they are by name or omitted.
-fn params_of<'a>(params: Option<View<'a>>) -> Option<ArrayView<'a>>
-    ensures { MatchOption result (positional_params (option_map seen params.entry) ≡ [])
-        (λ a. positional_params (option_map seen params.entry) ≡ elements_seen a) }
-{
-    params?.as_array()
-}
-
-// Returns the one param by position; `None` if there are more or fewer.
-fn one_param<'a>(params: Option<View<'a>>) -> Option<View<'a>>
-    ensures { MatchOption result (length (positional_params (option_map seen params.entry)) ≢ 1)
-        (λ a. positional_params (option_map seen params.entry) ≡ seen a ∷ []) }
-{
-    let array = params_of(params)?;
-    if array.len() != 1 {
-        return None;
-    }
-    let first = array.get(0)?;
-    Some(first)
-}
-
-// Returns the two params by position; `None` if there are more or fewer.
-fn two_params<'a>(params: Option<View<'a>>) -> Option<(View<'a>, View<'a>)>
-    ensures { MatchOption result (length (positional_params (option_map seen params.entry)) ≢ 2)
-        (λ p. positional_params (option_map seen params.entry) ≡ seen p.0 ∷ seen p.1 ∷ []) }
-{
-    let array = params_of(params)?;
-    if array.len() != 2 {
-        return None;
-    }
-    let first = array.get(0)?;
-    let second = array.get(1)?;
-    Some((first, second))
-}
-
-// Returns the three params by position; `None` if there are more or fewer.
-fn three_params<'a>(params: Option<View<'a>>) -> Option<(View<'a>, View<'a>, View<'a>)>
-    ensures { MatchOption result (length (positional_params (option_map seen params.entry)) ≢ 3)
-        (λ p. positional_params (option_map seen params.entry)
-        ≡ seen p.0 ∷ seen p.1 ∷ seen p.2 ∷ []) }
-{
-    let array = params_of(params)?;
-    if array.len() != 3 {
-        return None;
-    }
-    let first = array.get(0)?;
-    let second = array.get(1)?;
-    let third = array.get(2)?;
-    Some((first, second, third))
-}
-
-// Reads the params of `get`: `[path]`.
+// Reads the params of `get`: `path`.
 fn read_get(alloc: Global, params: Option<View<'_>>) -> Result<Option<RequestedOperation>>
     ensures ok { IfOk result (λ o. option_map operation_denoted o
-        ≡ operation_with (codes "get") (positional_params (option_map seen params.entry))) }
+        ≡ method_operation (codes "get") (option_map seen params.entry)) }
     ensures only { OnlyNoMemory result }
 {
-    let Some(path) = one_param(params) else {
+    let Some(path) = one_param(params, "path") else {
         return Ok(None);
     };
     match try_read_path(alloc, path)? {
@@ -141,63 +95,68 @@ fn read_get(alloc: Global, params: Option<View<'_>>) -> Result<Option<RequestedO
     }
 }
 
-// Reads the params of `set`: `[path, value]`.
+// Reads the params of `set`: `path` and `value`.
 fn read_set_params(alloc: Global, params: Option<View<'_>>) -> Result<Option<RequestedOperation>>
     ensures ok { IfOk result (λ o. option_map operation_denoted o
-        ≡ operation_with (codes "set") (positional_params (option_map seen params.entry))) }
+        ≡ method_operation (codes "set") (option_map seen params.entry)) }
     ensures only { OnlyNoMemory result }
 {
-    let Some((path, value)) = two_params(params) else {
+    let Some((path, value)) = two_params(params, "path", "value") else {
         return Ok(None);
     };
     let Some(path) = try_read_path(alloc, path)? else {
         return Ok(None);
     };
     let value = value.to_value(alloc)?;
-    Ok(Some(RequestedOperation::Change(Edit::Set { path, value })))
+    let edit = Edit::Set { path, value };
+    Ok(Some(RequestedOperation::Change(DocumentChange::Edit(edit))))
 }
 
-// Reads the params of `push`: `[path, value]`.
+// Reads the params of `push`: `path` and `value`.
 fn read_push_params(alloc: Global, params: Option<View<'_>>) -> Result<Option<RequestedOperation>>
     ensures ok { IfOk result (λ o. option_map operation_denoted o
-        ≡ operation_with (codes "push") (positional_params (option_map seen params.entry))) }
+        ≡ method_operation (codes "push") (option_map seen params.entry)) }
     ensures only { OnlyNoMemory result }
 {
-    let Some((path, value)) = two_params(params) else {
+    let Some((path, value)) = two_params(params, "path", "value") else {
         return Ok(None);
     };
     let Some(path) = try_read_path(alloc, path)? else {
         return Ok(None);
     };
     let value = value.to_value(alloc)?;
-    Ok(Some(RequestedOperation::Change(Edit::Push { path, value })))
+    let edit = Edit::Push { path, value };
+    Ok(Some(RequestedOperation::Change(DocumentChange::Edit(edit))))
 }
 
-// Reads the params of `remove`: `[path, step]`.
+// Reads the params of `remove`: `path` and `step`.
 fn read_remove_params(alloc: Global, params: Option<View<'_>>) -> Result<Option<RequestedOperation>>
     ensures ok { IfOk result (λ o. option_map operation_denoted o
-        ≡ operation_with (codes "remove") (positional_params (option_map seen params.entry))) }
+        ≡ method_operation (codes "remove") (option_map seen params.entry)) }
     ensures only { OnlyNoMemory result }
 {
-    let Some((path, step)) = two_params(params) else {
+    let Some((path, step)) = two_params(params, "path", "step") else {
         return Ok(None);
     };
     let Some(path) = try_read_path(alloc, path)? else {
         return Ok(None);
     };
     match try_read_step(alloc, step)? {
-        Some(step) => Ok(Some(RequestedOperation::Change(Edit::Remove { path, step }))),
+        Some(step) => {
+            let edit = Edit::Remove { path, step };
+            Ok(Some(RequestedOperation::Change(DocumentChange::Edit(edit))))
+        }
         None => Ok(None),
     }
 }
 
-// Reads the params of `insert`: `[path, key, value]`.
+// Reads the params of `insert`: `path`, `key` and `value`.
 fn read_insert_params(alloc: Global, params: Option<View<'_>>) -> Result<Option<RequestedOperation>>
     ensures ok { IfOk result (λ o. option_map operation_denoted o
-        ≡ operation_with (codes "insert") (positional_params (option_map seen params.entry))) }
+        ≡ method_operation (codes "insert") (option_map seen params.entry)) }
     ensures only { OnlyNoMemory result }
 {
-    let Some((path, key, value)) = three_params(params) else {
+    let Some((path, key, value)) = three_params(params, "path", "key", "value") else {
         return Ok(None);
     };
     let Some(key) = key.text() else {
@@ -208,7 +167,58 @@ fn read_insert_params(alloc: Global, params: Option<View<'_>>) -> Result<Option<
     };
     let key = Text::copy(alloc, key)?;
     let value = value.to_value(alloc)?;
-    Ok(Some(RequestedOperation::Change(Edit::Insert { path, key, value })))
+    let edit = Edit::Insert { path, key, value };
+    Ok(Some(RequestedOperation::Change(DocumentChange::Edit(edit))))
+}
+
+// Reads the param of `patch`: `patch`.
+fn read_patch_param(alloc: Global, params: Option<View<'_>>) -> Result<Option<RequestedOperation>>
+    ensures ok { IfOk result (λ o. option_map operation_denoted o
+        ≡ method_operation (codes "patch") (option_map seen params.entry)) }
+    ensures only { OnlyNoMemory result }
+{
+    let Some(patch) = one_param(params, "patch") else {
+        return Ok(None);
+    };
+    let patch = patch.to_value(alloc)?;
+    Ok(Some(RequestedOperation::Change(DocumentChange::Patch(patch))))
+}
+
+// Reads the param of `merge`: `patch`.
+fn read_merge_param(alloc: Global, params: Option<View<'_>>) -> Result<Option<RequestedOperation>>
+    ensures ok { IfOk result (λ o. option_map operation_denoted o
+        ≡ method_operation (codes "merge") (option_map seen params.entry)) }
+    ensures only { OnlyNoMemory result }
+{
+    let Some(patch) = one_param(params, "patch") else {
+        return Ok(None);
+    };
+    let patch = patch.to_value(alloc)?;
+    Ok(Some(RequestedOperation::Change(DocumentChange::Merge(patch))))
+}
+
+// Reads the params of `undo`: there are none.
+fn read_undo(params: Option<View<'_>>) -> Option<RequestedOperation>
+    ensures { option_map operation_denoted result
+        ≡ method_operation (codes "undo") (option_map seen params.entry) }
+{
+    if has_no_params(params) {
+        Some(RequestedOperation::Undo)
+    } else {
+        None
+    }
+}
+
+// Reads the params of `redo`: there are none.
+fn read_redo(params: Option<View<'_>>) -> Option<RequestedOperation>
+    ensures { option_map operation_denoted result
+        ≡ method_operation (codes "redo") (option_map seen params.entry) }
+{
+    if has_no_params(params) {
+        Some(RequestedOperation::Redo)
+    } else {
+        None
+    }
 }
 
 // Returns the operation, or the error of invalid params.
@@ -223,11 +233,14 @@ fn or_invalid(
     }
 }
 
-/// Returns whether the method of this name is an edit.
-pub(crate) fn is_edit(method: &str) -> bool
-    ensures { result ≡ is_edit method.now }
+/// Returns whether the method of this name changes the document.
+pub(crate) fn is_change(method: &str) -> bool
+    ensures { result ≡ is_change method.now }
 {
-    matches!(method, "set" | "insert" | "push" | "remove")
+    matches!(
+        method,
+        "set" | "insert" | "push" | "remove" | "patch" | "merge" | "undo" | "redo"
+    )
 }
 
 /// Reads the operation that a request asks for. The inner error is the one of the response:
@@ -247,6 +260,10 @@ pub(crate) fn read_requested_operation(
         "insert" => read_insert_params(alloc, params)?,
         "push" => read_push_params(alloc, params)?,
         "remove" => read_remove_params(alloc, params)?,
+        "patch" => read_patch_param(alloc, params)?,
+        "merge" => read_merge_param(alloc, params)?,
+        "undo" => read_undo(params),
+        "redo" => read_redo(params),
         _ => return Ok(Err(RpcError::MethodNotFound)),
     };
     Ok(or_invalid(operation))

@@ -1,21 +1,27 @@
-// Performs an operation on the document.
+// Performs an operation on the document and its history.
 ghost use Rattle.std.specs.Prelude.{◌≡◌, IfOk, OnErr, option_map};
 ghost use Rattle.std.specs.Result.{result_map_both};
-ghost use Rattle.json_model.specs.Edit.{edited_once};
-ghost use Rattle.json_value.specs.Denotes.{tree_of};
-ghost use Rattle.json_value.specs.Edits.{step_of, steps_of, path_steps, edit_of};
+ghost use Rattle.json_value.specs.Edits.{step_of, steps_of, path_steps};
 ghost use Rattle.json_value.specs.Seen.{seen};
-ghost use Rattle.json_rpc.specs.Methods.{rpc_error_of, step_into, tree_at_path, get as get_at, change as change_by, performed};
-ghost use Rattle.json_rpc.specs.Perform.{container_type, Applies};
+ghost use Rattle.json_history.specs.History.{is_nonempty};
+ghost use Rattle.json_history.specs.LogOfHistory.{log_of};
+ghost use Rattle.json_rpc.specs.Methods.{rpc_error_of, step_into, tree_at_path, get as get_at, change as change_by, undo as undo_last, redo as redo_next, performed};
+ghost use Rattle.json_rpc.specs.Perform.{container_type};
+ghost use Rattle.json_rpc.specs.Denoted.{change_denoted, tree_history};
 ghost use Rattle.json_rpc.specs.Serving.{responded};
 ghost use Rattle.json_io.specs.Errors.{OnlyNoMemory};
 
+use crate::document_change::{DocumentChange, apply_change};
 use crate::error::RpcError;
 use crate::response::{Respond, error_response, result_response};
 use json_doc::JsonType;
-use json_io::{ErrorCode, Result};
-use json_value::{Edit, Path, PointerNode, Value, View};
+use json_history::History;
+use json_io::Result;
+use json_value::{Path, PointerNode, Value, View};
 use std::alloc::Global;
+
+// At most this many changes can be undone.
+const MAX_UNDOS: usize = 1000;
 
 // Returns the type of the values that a step leads into.
 fn container_type(step: &PointerNode) -> JsonType
@@ -61,17 +67,17 @@ fn find_at_path<'a>(root: View<'a>, path: &[PointerNode]) -> std::result::Result
 /// Fails with `NoMemory` if memory runs out.
 pub(crate) fn respond_to_get<R: Respond>(
     alloc: Global,
-    document: &Value,
+    history: &History,
     path: &Path,
     id: Option<View<'_>>,
 ) -> Result<Option<R>>
     ensures ok { IfOk result (λ o.
-        responded (tree_of document.now) (option_map seen id.entry)
-        (performed (get_at (path_steps path.now)) (tree_of document.now))
-        ≡ (tree_of document.now, option_map R.response o)) }
+        responded (tree_history history.now) (option_map seen id.entry)
+        (performed (get_at (path_steps path.now)) (tree_history history.now))
+        ≡ (tree_history history.now, option_map R.response o)) }
     ensures only { OnlyNoMemory result }
 {
-    match find_at_path(document.view(), path.steps()) {
+    match find_at_path(history.value().view(), path.steps()) {
         Ok(place) => {
             let value = place.to_value(alloc)?;
             result_response(alloc, value, id)
@@ -80,46 +86,86 @@ pub(crate) fn respond_to_get<R: Respond>(
     }
 }
 
-// Applies an edit, or returns the error that it does not apply.
-fn apply(
-    alloc: Global,
-    document: &mut Value,
-    edit: &Edit,
-) -> Result<std::result::Result<(), RpcError>>
-    ensures ok { IfOk result (λ r. Applies (tree_of document.old) (edit_of edit.now)
-        (tree_of document.new) r) }
-    ensures kept { OnErr result (tree_of document.new ≡ tree_of document.old) }
-    ensures only { OnlyNoMemory result }
-{
-    match document.apply(alloc, edit) {
-        Ok(()) => Ok(Ok(())),
-        Err(error) => match error.code {
-            ErrorCode::NotFound => Ok(Err(RpcError::NotFound)),
-            ErrorCode::TypeUnmatched => Ok(Err(RpcError::TypeUnmatched)),
-            _ => Err(error),
-        },
-    }
-}
-
-/// Applies an edit and returns the response to a request with this id; `None` without an id. Fails
-/// with `NoMemory` if memory runs out; the document is unchanged then.
+/// Makes a change of the document, which can be undone, and returns the response to a request with
+/// this id; `None` without an id. Fails with `NoMemory` if memory runs out; nothing is changed then.
+#[tactic(auto, using(crate::proofs::ChangedDocuments::change_performed, crate::proofs::ChangedDocuments::change_refused))]
 pub(crate) fn change_document<R: Respond>(
     alloc: Global,
-    document: &mut Value,
-    edit: &Edit,
+    history: &mut History,
+    change: DocumentChange,
     id: Option<View<'_>>,
 ) -> Result<Option<R>>
     ensures ok { IfOk result (λ o.
-        responded (tree_of document.old) (option_map seen id.entry)
-        (performed (change_by (edit_of edit.now)) (tree_of document.old))
-        ≡ (tree_of document.new, option_map R.response o)) }
-    ensures kept { OnErr result (tree_of document.new ≡ tree_of document.old) }
+        responded (tree_history history.old) (option_map seen id.entry)
+        (performed (change_by (change_denoted change)) (tree_history history.old))
+        ≡ (tree_history history.new, option_map R.response o)) }
+    ensures kept { OnErr result (log_of history.new ≡ log_of history.old) }
     ensures only { OnlyNoMemory result }
 {
-    // The response is made first, so that the document stays as it is if memory runs out.
+    // The response is made first, so that nothing is changed if memory runs out.
     let done = result_response(alloc, Value::new_null(), id)?;
-    match apply(alloc, document, edit)? {
-        Ok(()) => Ok(done),
+    match apply_change(alloc, history, change)? {
+        Ok(()) => {
+            history.limit(MAX_UNDOS);
+            Ok(done)
+        }
         Err(error) => error_response(alloc, error, id),
     }
+}
+
+// Returns whether there is a change to undo.
+#[tactic(auto, using(crate::proofs::ChangedDocuments::some_counted))]
+fn can_undo(history: &History) -> bool
+    ensures { result ≡ is_nonempty (tree_history history.now).past }
+{
+    history.undo_count() != 0
+}
+
+// Returns whether there is a change to redo.
+#[tactic(auto, using(crate::proofs::ChangedDocuments::some_counted))]
+fn can_redo(history: &History) -> bool
+    ensures { result ≡ is_nonempty (tree_history history.now).future }
+{
+    history.redo_count() != 0
+}
+
+/// Undoes the last change, if there is one, and returns the response to a request with this id;
+/// `None` without an id. Fails with `NoMemory` if memory runs out; nothing is changed then.
+pub(crate) fn undo_change<R: Respond>(
+    alloc: Global,
+    history: &mut History,
+    id: Option<View<'_>>,
+) -> Result<Option<R>>
+    ensures ok { IfOk result (λ o.
+        responded (tree_history history.old) (option_map seen id.entry)
+        (performed undo_last (tree_history history.old))
+        ≡ (tree_history history.new, option_map R.response o)) }
+    ensures kept { OnErr result (log_of history.new ≡ log_of history.old) }
+    ensures only { OnlyNoMemory result }
+{
+    // The response is made first, so that nothing is changed if memory runs out.
+    let response = result_response(alloc, Value::new_bool(can_undo(history)), id)?;
+    history.undo(alloc)?;
+    Ok(response)
+}
+
+/// Redoes the change that was undone last, if there is one, and returns the response to a request
+/// with this id; `None` without an id. Fails with `NoMemory` if memory runs out; nothing is changed
+/// then.
+pub(crate) fn redo_change<R: Respond>(
+    alloc: Global,
+    history: &mut History,
+    id: Option<View<'_>>,
+) -> Result<Option<R>>
+    ensures ok { IfOk result (λ o.
+        responded (tree_history history.old) (option_map seen id.entry)
+        (performed redo_next (tree_history history.old))
+        ≡ (tree_history history.new, option_map R.response o)) }
+    ensures kept { OnErr result (log_of history.new ≡ log_of history.old) }
+    ensures only { OnlyNoMemory result }
+{
+    // The response is made first, so that nothing is changed if memory runs out.
+    let response = result_response(alloc, Value::new_bool(can_redo(history)), id)?;
+    history.redo(alloc)?;
+    Ok(response)
 }

@@ -4,7 +4,7 @@ ghost use Rattle.json_model.specs.Print.{shown};
 ghost use Rattle.json_layout.specs.TextWriting.{WritesText};
 ghost use Rattle.json_value.specs.Denotes.{tree_of};
 ghost use Rattle.json_rpc.specs.Sessions.{ServesLine, ServingFails};
-ghost use Rattle.json_rpc.specs.Denoted.{document_of, reply_tree};
+ghost use Rattle.json_rpc.specs.Denoted.{service_history, reply_tree};
 ghost use Rattle.json_rpc.specs.ReplyTexts.{result_start, error_start, reply_end};
 
 use crate::error::RpcError;
@@ -62,6 +62,9 @@ fn error_start(error: RpcError) -> &'static str
         }
         RpcError::TypeUnmatched => {
             "{\"jsonrpc\":\"2.0\",\"error\":{\"code\":-32001,\"message\":\"Type unmatched\"}"
+        }
+        RpcError::TestFailed => {
+            "{\"jsonrpc\":\"2.0\",\"error\":{\"code\":-32002,\"message\":\"Test failed\"}"
         }
     }
 }
@@ -164,11 +167,11 @@ pub(crate) fn serve_line<W: Sink>(
     line: Line<'_>,
     out: &mut BufferedWriter<W>,
 ) -> Result<()>
-    ensures ok { OnOk result (ServesLine (document_of service.old) line.entry
-        (document_of service.new) (⟦<BufferedWriter<W> as Sink>⟧.state out.old)
+    ensures ok { OnOk result (ServesLine (service_history service.old) line.entry
+        (service_history service.new) (⟦<BufferedWriter<W> as Sink>⟧.state out.old)
         (⟦<BufferedWriter<W> as Sink>⟧.state out.new)) }
-    ensures err { IfErr result (λ e. ServingFails (document_of service.old) line.entry
-        (document_of service.new) (⟦<BufferedWriter<W> as Sink>⟧.state out.old)
+    ensures err { IfErr result (λ e. ServingFails (service_history service.old) line.entry
+        (service_history service.new) (⟦<BufferedWriter<W> as Sink>⟧.state out.old)
         (⟦<BufferedWriter<W> as Sink>⟧.state out.new) e) }
 {
     match service.reply_to::<Reply>(alloc, line) {

@@ -33,7 +33,7 @@ fn serve_buffered<S: Source, W: Sink>(
     ensures loan { (⟦<BufferedWriter<W> as Sink>⟧.state result.0).loan
         ≡ (⟦<BufferedWriter<W> as Sink>⟧.state writer).loan }
 {
-    let mut service = Service::new();
+    let mut service = Service::new(alloc);
     let mut reader = reader;
     let mut out = writer;
     match serve_lines(alloc, &mut service, &mut reader, source, &mut out) {
@@ -116,10 +116,17 @@ fn serve_source<S: Source, K: Sink, E: Sink>(
 /// writes the reply to each line, if there is one, to `sink`.
 ///
 /// A line is a request or a batch of requests. The methods are `get [path]`, `set [path, value]`,
-/// `insert [path, key, value]`, `push [path, value]` and `remove [path, step]`. Their parameters
-/// are given by position. A path is an array of keys and indexes, and a step is one of them. Each
-/// reply is compact and ends with a newline. It is flushed before the next line is read; tests show
-/// this, and no clause says it.
+/// `insert [path, key, value]`, `push [path, value]`, `remove [path, step]`, `patch [patch]` for a
+/// JSON Patch (RFC 6902), `merge [patch]` for a JSON Merge Patch (RFC 7396), `undo []` and
+/// `redo []`. Their parameters are given by position, as here, or by these names (JSON-RPC 2.0,
+/// section 4.2). A path is an array of keys and indexes, and a step is one of them.
+///
+/// `undo` takes back the last change that applied, and `redo` makes again the one that was undone
+/// last. Their result is true, or false if there was none. A new change drops what can be redone. At
+/// most 1,000 changes can be undone; the oldest are dropped.
+///
+/// Each reply is compact and ends with a newline. It is flushed before the next line is read; tests
+/// show this, and no clause says it.
 ///
 /// A line of whitespace alone has no reply. The reply to a line of more than 1,048,576 bytes, or
 /// one that is not a JSON text (RFC 8259) in UTF-8 of at most 254 levels, is the error -32700. The

@@ -7,13 +7,16 @@
 
 use json_command::Console;
 use json_rpc::run_rpc;
-use mezdruk_help::USAGE_RPC;
+use mezdruk_help::{USAGE_RPC, report_unread};
 use std::process::ExitCode;
 
 fn main(rt: HostRuntime) -> ExitCode {
     let mut console = match Console::open(&rt, &USAGE_RPC.about) {
         Ok(console) => console,
-        Err(status) => return ExitCode::from(status.number()),
+        Err(status) => {
+            report_unread(&rt, USAGE_RPC.program, status);
+            return ExitCode::from(status.number());
+        }
     };
     let (source, sink, errs) = (&mut console.source, &mut console.sink, &mut console.errs);
     let status = run_rpc(rt.alloc(), &console.arguments, source, sink, errs);

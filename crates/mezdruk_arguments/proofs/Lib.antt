@@ -4,3 +4,5 @@ pub mod CommandLines
 pub mod Lines
 pub mod Indents
 pub mod Spelled
+pub mod LeadingOptions
+pub mod MovedFirst

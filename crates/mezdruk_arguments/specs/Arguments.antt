@@ -9,6 +9,8 @@ use Rattle.mezdruk_arguments.specs.declared.operand.OperandKind.TheVariants as k
 use Rattle.mezdruk_arguments.specs.declared.setting.RequestedLayout.{RequestedLayout}
 use Rattle.mezdruk_arguments.specs.declared.setting.RequestedLayout.TheVariants.{Compact, Spaces, Tab}
 use Rattle.mezdruk_arguments.specs.declared.setting.RequestedInput.TheVariants.{Lines, Stream}
+use Rattle.mezdruk_arguments.specs.declared.setting.ColorChoice.{ColorChoice}
+use Rattle.mezdruk_arguments.specs.declared.setting.ColorChoice.TheVariants.{Auto, Always, Never}
 use Rattle.mezdruk_arguments.specs.declared.setting.Setting.{Setting}
 use Rattle.mezdruk_arguments.specs.declared.setting.Setting.TheVariants as setting
 use Rattle.mezdruk_arguments.specs.declared.setting.Settings.{Settings}
@@ -57,8 +59,19 @@ layout_in w =
     (cond (bytes_eq w (codes "--tabs")) (Some Tab)
     (cond (bytes_eq (take 9 w) (codes "--indent=")) (option_map Spaces (width_in (drop 9 w))) None)))
 
+-- when a word asks for colors
+abbrev pub color_in : List ℕ → Option ColorChoice
+color_in w =
+    cond (bytes_eq w (codes "--color") || bytes_eq w (codes "-C") || bytes_eq w (codes "--color=always")) (Some Always)
+    (cond (bytes_eq w (codes "--color=never") || bytes_eq w (codes "-M")) (Some Never)
+    (cond (bytes_eq w (codes "--color=auto")) (Some Auto) None))
+
+-- the levels that a word asks for, or its colors
+abbrev pub color_or_depth : List ℕ → Option Setting
+color_or_depth w = elim (color_in w) [ Some c ↦ Some (setting.Color c) | None ↦ option_map setting.Depth (depth_in w) ]
+
 abbrev pub setting_with_value : List ℕ → Option Setting
-setting_with_value w = elim (layout_in w) [ Some l ↦ Some (setting.Layout l) | None ↦ option_map setting.Depth (depth_in w) ]
+setting_with_value w = elim (layout_in w) [ Some l ↦ Some (setting.Layout l) | None ↦ color_or_depth w ]
 
 -- what a word asks for as an option
 abbrev pub setting_in : List ℕ → Option Setting
@@ -78,6 +91,7 @@ setting_in w =
 abbrev pub takes : Verb → Setting → Bool
 takes verb.Check (setting.Layout l) = false
 takes verb.Check setting.SortKeys = false
+takes verb.Check (setting.Color c) = false
 takes verb.Check setting.InPlace = false
 takes verb.Get setting.InPlace = false
 takes verb.Keys setting.InPlace = false
@@ -132,7 +146,7 @@ is_standard_input w = bytes_eq w (codes "-")
 
 -- no option
 abbrev pub no_settings : Settings
-no_settings = record { layout = None; sorted = false; unique = false; depth = None; raw = false; string_value = false; merge_patch = false; verbose = false; in_place = false; bom = false; input = None }
+no_settings = record { layout = None; sorted = false; unique = false; depth = None; raw = false; string_value = false; merge_patch = false; verbose = false; in_place = false; bom = false; input = None; color = None }
 
 -- the settings with one more, unless there is one of its kind
 abbrev pub with_setting : Settings → Setting → Option Settings
@@ -147,6 +161,7 @@ with_setting s setting.Verbose = cond s.verbose None (Some (record s { verbose =
 with_setting s setting.InPlace = cond s.in_place None (Some (record s { in_place = true }))
 with_setting s setting.Bom = cond s.bom None (Some (record s { bom = true }))
 with_setting s (setting.Input f) = cond (is_some s.input) None (Some (record s { input = Some f }))
+with_setting s (setting.Color c) = cond (is_some s.color) None (Some (record s { color = Some c }))
 
 -- an operand is read as its kind, and a value as a string where that is asked for
 abbrev pub kind_read : Settings → OperandKind → OperandKind

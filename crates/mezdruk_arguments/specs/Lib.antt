@@ -6,3 +6,4 @@ pub mod Asks
 pub mod Styles
 pub mod Edits
 pub mod Help
+pub mod ArgumentOrder

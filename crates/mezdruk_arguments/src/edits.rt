@@ -33,7 +33,7 @@ fn first_text(operands: &[Value]) -> Option<&str>
 fn no_pointer() -> OperandError {
     OperandError::Invalid(Problem::WrongForm {
         kind: OperandKind::Path,
-        element: None,
+        step: None,
     })
 }
 

@@ -60,6 +60,7 @@ mezdruk fmt [OPTION..] [FILE..]
 Lays documents out, by two spaces if no option asks for another layout.
 
 Layouts: -c, --compact; --pretty; --indent=N; --tabs; beside one -S, --sort-keys
+Colors:  -C, --color; -M, --color=never; --color=auto
 Input:   --unique-keys, --depth=N, --lines, --stream, --bom
 Output:  -i, --in-place writes each FILE in place; -v, --verbose says how many
 
@@ -90,6 +91,7 @@ Paths:   --path=PATH asks for one more value, as often as it is given. Each
          value is printed on a line, in the order of the paths, or none if one
          of them is not there
 Layouts: -c, --compact; --pretty; --indent=N; --tabs; beside one -S, --sort-keys
+Colors:  -C, --color; -M, --color=never; --color=auto
 Input:   --unique-keys, --depth=N, --lines, --stream, --bom
 Output:  -r, --raw prints a string's content
 
@@ -107,6 +109,7 @@ a JSON Pointer, as /scripts, or a JSON array of steps. The empty pointer is the
 whole document.
 
 Layouts: -c, --compact; --pretty; --indent=N; --tabs; beside one -S, --sort-keys
+Colors:  -C, --color; -M, --color=never; --color=auto
 Input:   --unique-keys, --depth=N, --lines, --stream, --bom
 Output:  -r, --raw prints a key's content
 
@@ -123,6 +126,7 @@ there: a JSON Pointer, as /tags, or a JSON array of steps. The empty pointer is
 the whole document.
 
 Layouts: -c, --compact; --pretty; --indent=N; --tabs; beside one -S, --sort-keys
+Colors:  -C, --color; -M, --color=never; --color=auto
 Input:   --unique-keys, --depth=N, --lines, --stream, --bom
 
   mezdruk length /tags package.json
@@ -139,6 +143,7 @@ Applies a JSON array of edits in turn: [\"set\", path, value],
 [\"remove\", path, step]. A path is an array of steps.
 
 Layouts: -c, --compact; --pretty; --indent=N; --tabs; beside one -S, --sort-keys
+Colors:  -C, --color; -M, --color=never; --color=auto
 Input:   --unique-keys, --depth=N, --lines, --stream, --bom
 Output:  -i, --in-place writes each FILE in place, in the layout that it has
          if no option asks for one; -v, --verbose says how many
@@ -157,6 +162,7 @@ adds a member, and `push` an element.
 
 Value:   --string, before VALUE, takes it as a string: --string Ada
 Layouts: -c, --compact; --pretty; --indent=N; --tabs; beside one -S, --sort-keys
+Colors:  -C, --color; -M, --color=never; --color=auto
 Input:   --unique-keys, --depth=N, --lines, --stream, --bom
 Output:  -i, --in-place writes each FILE in place, in the layout that it has
          if no option asks for one; -v, --verbose says how many
@@ -175,6 +181,7 @@ object where PATH leads, or appends such a member. PATH is a JSON Pointer, as
 
 Value:   --string, before VALUE, takes it as a string: --string Ada
 Layouts: -c, --compact; --pretty; --indent=N; --tabs; beside one -S, --sort-keys
+Colors:  -C, --color; -M, --color=never; --color=auto
 Input:   --unique-keys, --depth=N, --lines, --stream, --bom
 Output:  -i, --in-place writes each FILE in place, in the layout that it has
          if no option asks for one; -v, --verbose says how many
@@ -192,6 +199,7 @@ Appends VALUE, a JSON text, to the array where PATH leads: a JSON Pointer, as
 
 Value:   --string, before VALUE, takes it as a string: --string Ada
 Layouts: -c, --compact; --pretty; --indent=N; --tabs; beside one -S, --sort-keys
+Colors:  -C, --color; -M, --color=never; --color=auto
 Input:   --unique-keys, --depth=N, --lines, --stream, --bom
 Output:  -i, --in-place writes each FILE in place, in the layout that it has
          if no option asks for one; -v, --verbose says how many
@@ -209,6 +217,7 @@ an index out of the array there. PATH is a JSON Pointer, as /tags, or a JSON
 array of steps; STEP is a JSON string or an index from 0.
 
 Layouts: -c, --compact; --pretty; --indent=N; --tabs; beside one -S, --sort-keys
+Colors:  -C, --color; -M, --color=never; --color=auto
 Input:   --unique-keys, --depth=N, --lines, --stream, --bom
 Output:  -i, --in-place writes each FILE in place, in the layout that it has
          if no option asks for one; -v, --verbose says how many
@@ -225,6 +234,7 @@ mezdruk patch [OPTION..] --patch=FILE [FILE..]
 Applies a JSON Patch (RFC 6902), all operations or none.
 
 Layouts: -c, --compact; --pretty; --indent=N; --tabs; beside one -S, --sort-keys
+Colors:  -C, --color; -M, --color=never; --color=auto
 Input:   --unique-keys, --depth=N, --lines, --stream, --bom
 Output:  -i, --in-place writes each FILE in place, in the layout that it has
          if no option asks for one; -v, --verbose says how many
@@ -242,6 +252,7 @@ Applies a JSON Merge Patch (RFC 7396): its members replace those of the same
 keys, and null takes one out.
 
 Layouts: -c, --compact; --pretty; --indent=N; --tabs; beside one -S, --sort-keys
+Colors:  -C, --color; -M, --color=never; --color=auto
 Input:   --unique-keys, --depth=N, --lines, --stream, --bom
 Output:  -i, --in-place writes each FILE in place, in the layout that it has
          if no option asks for one; -v, --verbose says how many
@@ -262,6 +273,7 @@ is no document.
 Patches: --merge prints a JSON Merge Patch (RFC 7396); there is none if a key
          repeats or a member of NEW is null: the status is 3
 Layouts: -c, --compact; --pretty; --indent=N; --tabs; beside one -S, --sort-keys
+Colors:  -C, --color; -M, --color=never; --color=auto
 Input:   --unique-keys, --depth=N, --bom
 
   mezdruk diff old.json new.json
@@ -278,6 +290,7 @@ after another, each as a JSON Merge Patch (RFC 7396): its members replace those
 of the same keys, and null takes one out. `-` is standard input.
 
 Layouts: -c, --compact; --pretty; --indent=N; --tabs; beside one -S, --sort-keys
+Colors:  -C, --color; -M, --color=never; --color=auto
 Input:   --unique-keys, --depth=N, --bom
 Output:  -i, --in-place writes the first FILE in place, in the layout that it
          has if no option asks for one

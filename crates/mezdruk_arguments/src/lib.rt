@@ -19,6 +19,7 @@
 //! ```
 #![tactic(auto)]
 
+mod argument_order;
 mod arguments;
 mod edits;
 mod help;
@@ -32,11 +33,12 @@ mod setting_style;
 mod spelling;
 mod verb;
 
+pub use argument_order::command_first;
 pub use arguments::{Arguments, read_arguments};
 pub use edits::{requested_edits, split_pointer};
 pub use help::help_asked;
 pub use operand::{OperandKind, read_operand};
 pub use problem::{ArgumentsError, MissingArgument, OperandError, Problem};
 pub use report::{arguments_report, operand_file_report};
-pub use setting::{RequestedInput, RequestedLayout, Setting, Settings};
+pub use setting::{ColorChoice, RequestedInput, RequestedLayout, Setting, Settings};
 pub use verb::Verb;

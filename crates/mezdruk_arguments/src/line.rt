@@ -53,8 +53,9 @@ pub(crate) struct ArgumentLine<'a> {
     files: Vec<&'a str>,
 }
 
-// Whether a word is an option: it begins with a hyphen, and no digit follows, as in a number.
-fn is_option_word(word: &str) -> bool
+/// Returns whether a word is an option: it begins with a hyphen, and no digit follows, as in a
+/// number.
+pub(crate) fn is_option_word(word: &str) -> bool
     ensures { result ≡ option_word word.now }
 {
     match word.as_bytes() {

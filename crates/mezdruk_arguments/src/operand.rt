@@ -10,11 +10,12 @@ ghost use Rattle.json_text.specs.Ruled.{usual_rules};
 ghost use Rattle.json_value.specs.Denotes.{tree_of};
 
 use crate::problem::{OperandError, Problem};
-use crate::spelling::{are_edits, first_unspelled, is_path, is_step, parse_pointer};
+use crate::spelling::{are_edits, first_wrong_edit, first_wrong_step, is_path, parse_pointer};
 use json_doc::{Doc, read_document_with};
 use json_io::{Error, ErrorCode, Place};
 use json_text::Rules;
 use json_value::Value;
+use mezdruk_help::is_step;
 use std::alloc::Global;
 use std::rc::Rc;
 
@@ -173,14 +174,28 @@ fn has_form(
     }
 }
 
+// Returns what is wrong with a value that does not have the form of the operand.
+fn form_problem(kind: OperandKind, value: &Value) -> Problem {
+    if kind == OperandKind::Edits {
+        if let Some((index, reason)) = first_wrong_edit(value.view()) {
+            return Problem::NoEdit { index, reason };
+        }
+    }
+    let step = match kind {
+        OperandKind::Path => first_wrong_step(value.view()),
+        _ => None,
+    };
+    Problem::WrongForm { kind, step }
+}
+
 /// Reads an operand of this kind from the argument `word`, and returns its value. If the kind is
 /// `Text` or `File`, or if it is `Path` and `word` is empty or begins with `/`, the value is the
 /// string `word` itself. Else `word` is read as a JSON text by the usual rules (at most 254 levels,
 /// keys may repeat).
 ///
-/// Fails with [`Problem::NoText`] if it is not a JSON text, with [`Problem::WrongForm`] if the
-/// value does not have the form of the operand or the path is no JSON Pointer, and with
-/// [`OperandError::OutOfMemory`] if memory runs out.
+/// Fails with [`Problem::NoText`] if it is not a JSON text, with [`Problem::NoEdit`] or
+/// [`Problem::WrongForm`] if the value does not have the form of the operand or the path is no JSON
+/// Pointer, and with [`OperandError::OutOfMemory`] if memory runs out.
 ///
 /// ```
 /// use mezdruk_arguments::{OperandKind, read_operand};
@@ -199,6 +214,5 @@ pub fn read_operand(alloc: Global, kind: OperandKind, word: &str) -> Result<Valu
     if has_form(alloc, kind, word, &value)? {
         return Ok(value);
     }
-    let element = first_unspelled(alloc, kind, &value);
-    Err(OperandError::Invalid(Problem::WrongForm { kind, element }))
+    Err(OperandError::Invalid(form_problem(kind, &value)))
 }

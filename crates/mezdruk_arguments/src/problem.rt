@@ -40,9 +40,16 @@ pub enum Problem {
     WrongForm {
         /// The kind of the operand.
         kind: OperandKind,
-        /// The index of the first element that is no edit or no step, counted from 0, if the value
-        /// is an array of them.
-        element: Option<usize>,
+        /// The index of the first element that is no step, counted from 0, if the operand is a path
+        /// and the value an array.
+        step: Option<usize>,
+    },
+    /// It is an operand of edits, and an array of which an element is no edit.
+    NoEdit {
+        /// The index of the first such element, counted from 0.
+        index: usize,
+        /// What is wrong with it.
+        reason: &'static str,
     },
 }
 
@@ -51,7 +58,7 @@ pub enum Problem {
 /// ```
 /// use mezdruk_arguments::{OperandKind, Problem, OperandError, read_operand};
 /// let refusal = read_operand(alloc, OperandKind::Path, "[\"a\", 0.5]").err();
-/// let problem = Problem::WrongForm { kind: OperandKind::Path, element: Some(1) };
+/// let problem = Problem::WrongForm { kind: OperandKind::Path, step: Some(1) };
 /// assert_eq!(rt; refusal, Some(OperandError::Invalid(problem)));
 /// ```
 #[derive(Clone, Copy, Debug, PartialEq, Eq)]

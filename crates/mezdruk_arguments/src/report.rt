@@ -5,16 +5,16 @@ use crate::setting::Setting;
 use crate::verb::Verb;
 use json_io::{Error, Words, fault_text};
 use std::alloc::{AllocError, Global};
-use strsim::levenshtein;
+use strsim::osa_distance;
 
-/// The commands.
-const COMMANDS: [&str; 14] = [
+/// The commands, and the programs that commands run.
+const COMMANDS: [&str; 18] = [
     "fmt", "check", "get", "keys", "length", "edit", "set", "insert", "push", "remove", "patch",
-    "merge", "diff", "overlay",
+    "merge", "diff", "overlay", "reshape", "lines", "rpc", "history",
 ];
 
 /// The options.
-const OPTIONS: [&str; 18] = [
+const OPTIONS: [&str; 19] = [
     "--compact",
     "--pretty",
     "--indent=",
@@ -30,17 +30,19 @@ const OPTIONS: [&str; 18] = [
     "--lines",
     "--stream",
     "--bom",
+    "--color",
     "--edits=",
     "--patch=",
     "--merge=",
 ];
 
-// Returns the word of a list that is nearest, if it is near: at most 2 letters differ.
+// Returns the word of a list that is nearest, if it is near: at most 2 letters are added, left out,
+// changed, or exchanged with the next one.
 fn nearest<'a>(alloc: Global, word: &str, list: &[&'a str]) -> Result<Option<&'a str>, AllocError> {
     let mut found = None;
     let mut least = 3;
     'list: for known in list {
-        let distance = levenshtein(alloc, word, known)?;
+        let distance = osa_distance(alloc, word, known)?;
         if distance < least {
             least = distance;
             found = Some(*known);
@@ -91,6 +93,7 @@ fn value_wanted(name: &str) -> Option<&'static str> {
     match name {
         "--indent" => Some("takes a number from 0 to 8"),
         "--depth" => Some("takes a number from 0 to 1024 without leading zeros"),
+        "--color" => Some("takes `auto`, `always` or `never`"),
         "--edits" | "--patch" | "--merge" => Some("takes the name of a file"),
         "--path" => Some("takes a JSON Pointer, as --path=/tags/0, or a JSON array of steps"),
         _ => None,
@@ -139,6 +142,9 @@ fn unknown_command(alloc: Global, word: &str) -> Result<String, AllocError> {
 fn repeated_option(alloc: Global, word: &str) -> Result<String, AllocError> {
     match Setting::of_word(word) {
         Some(Setting::Layout(_)) => format!(in alloc; "`{word}` asks for a second layout"),
+        Some(Setting::Color(_)) => {
+            format!(in alloc; "`{word}`: at most one of --color, -C and -M is taken, once")
+        }
         Some(Setting::Input(_)) => {
             format!(in alloc; "`{word}`: at most one of --lines and --stream is taken, once")
         }
@@ -213,20 +219,11 @@ fn form_wanted(kind: OperandKind) -> &'static str {
 }
 
 // Returns what is wrong with an operand of another form.
-fn wrong_form(
-    alloc: Global,
-    kind: OperandKind,
-    element: Option<usize>,
-) -> Result<String, AllocError> {
+fn wrong_form(alloc: Global, kind: OperandKind, step: Option<usize>) -> Result<String, AllocError> {
     let name = kind.name();
-    match (element, kind) {
-        (Some(number), OperandKind::Edits) => {
-            format!(in alloc; "element {number} of {name} is no edit")
-        }
-        (Some(number), _) => {
-            format!(in alloc; "step {number} of {name} is no string and no index")
-        }
-        (None, _) => format!(in alloc; "{name} {}", form_wanted(kind)),
+    match step {
+        Some(number) => format!(in alloc; "step {number} of {name} is no string and no index"),
+        None => format!(in alloc; "{name} {}", form_wanted(kind)),
     }
 }
 
@@ -244,7 +241,10 @@ fn problem_text(alloc: Global, word: &str, problem: &Problem) -> Result<String, 
         Problem::Late => late_option(alloc, word),
         Problem::NoWidth => format!(in alloc; "`{word}`: --indent takes a number from 0 to 8"),
         Problem::NoText { kind, error } => no_text(alloc, kind, word, &error),
-        Problem::WrongForm { kind, element } => wrong_form(alloc, kind, element),
+        Problem::WrongForm { kind, step } => wrong_form(alloc, kind, step),
+        Problem::NoEdit { index, reason } => {
+            format!(in alloc; "element {index} of EDITS is no edit: {reason}")
+        }
     }
 }
 
@@ -311,13 +311,13 @@ pub fn arguments_report(
 /// newline at the end. `words` are the arguments. Fails if memory runs out.
 ///
 /// ```
-/// use mezdruk_arguments::{OperandKind, Problem, operand_file_report};
+/// use mezdruk_arguments::{Problem, operand_file_report};
 /// use json_text::Words;
 /// let mut words = Words::new(alloc);
 /// words.push("edit")?;
-/// let problem = Problem::WrongForm { kind: OperandKind::Edits, element: Some(1) };
+/// let problem = Problem::NoEdit { index: 1, reason: "it is no array" };
 /// let report = operand_file_report(alloc, &words, "e.json", &problem)?;
-/// let expected = "mezdruk edit: e.json: element 1 of EDITS is no edit\n";
+/// let expected = "mezdruk edit: e.json: element 1 of EDITS is no edit: it is no array\n";
 /// assert_eq!(rt; report.as_str(), expected);
 /// ```
 pub fn operand_file_report(

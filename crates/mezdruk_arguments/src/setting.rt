@@ -1,6 +1,6 @@
 // The options of the commands.
 ghost use Rattle.std.specs.Prelude.{◌≡◌, option_map};
-ghost use Rattle.mezdruk_arguments.specs.Arguments.{layout_in, setting_in, setting_with_value as value_setting, with_setting, no_settings, reads_stream as is_stream, rules_of_stream, kind_read};
+ghost use Rattle.mezdruk_arguments.specs.Arguments.{color_in, layout_in, setting_in, setting_with_value as value_setting, with_setting, no_settings, reads_stream as is_stream, rules_of_stream, kind_read};
 ghost use Rattle.mezdruk_arguments.specs.declared.setting.Setting.TheVariants as Setting;
 ghost use Rattle.json_command.specs.Options.{depth_in, width_in};
 
@@ -39,6 +39,27 @@ pub enum RequestedInput {
     Stream,
 }
 
+/// When printed values have colors.
+///
+/// ```
+/// use mezdruk_arguments::{ColorChoice, read_arguments};
+/// use json_text::Words;
+/// let mut words = Words::new(alloc);
+/// words.push("fmt")?;
+/// words.push("--color=never")?;
+/// let arguments = read_arguments(alloc, &words).map_err(|_| "not valid")?;
+/// assert_eq!(rt; arguments.settings.color, Some(ColorChoice::Never));
+/// ```
+#[derive(Clone, Copy, Debug, PartialEq, Eq)]
+pub enum ColorChoice {
+    /// Where standard output is a terminal, and the environment does not ask for none.
+    Auto,
+    /// Always.
+    Always,
+    /// Never.
+    Never,
+}
+
 /// What one option asks for.
 ///
 /// ```
@@ -69,6 +90,8 @@ pub enum Setting {
     Bom,
     /// Input that contains several documents (`--lines` or `--stream`).
     Input(RequestedInput),
+    /// Colors of printed values (`--color`).
+    Color(ColorChoice),
 }
 
 /// What the options of a command ask for. Each can be asked for once.
@@ -111,6 +134,8 @@ pub struct Settings {
     pub bom: bool,
     /// How each input contains several documents; `None` if it is one document.
     pub input: Option<RequestedInput>,
+    /// When printed values have colors, if an option asks for that.
+    pub color: Option<ColorChoice>,
 }
 
 /// Returns the number of spaces that one digit asks for, at most 8.
@@ -145,12 +170,27 @@ fn depth_of(word: &str) -> Option<u32>
     option_number(word, "--depth", 1_024)
 }
 
+// When a word asks for colors.
+fn requested_color(word: &str) -> Option<ColorChoice>
+    ensures { result ≡ color_in word.now }
+{
+    match word {
+        "--color" | "-C" | "--color=always" => Some(ColorChoice::Always),
+        "--color=never" | "-M" => Some(ColorChoice::Never),
+        "--color=auto" => Some(ColorChoice::Auto),
+        _ => None,
+    }
+}
+
 // What a word with a value asks for.
 fn setting_with_value(word: &str) -> Option<Setting>
     ensures { result ≡ value_setting word.now }
 {
     if let Some(layout) = requested_layout(word) {
         return Some(Setting::Layout(layout));
+    }
+    if let Some(choice) = requested_color(word) {
+        return Some(Setting::Color(choice));
     }
     let depth = depth_of(word)?;
     Some(Setting::Depth(depth))
@@ -194,6 +234,7 @@ impl Settings {
             in_place: false,
             bom: false,
             input: None,
+            color: None,
         }
     }
 
@@ -206,6 +247,19 @@ impl Settings {
         }
         Some(Settings {
             layout: Some(layout),
+            ..self
+        })
+    }
+
+    // Returns the settings with a choice of colors, or `None` if an earlier option made one.
+    fn with_color(self, choice: ColorChoice) -> Option<Settings>
+        ensures { result ≡ with_setting self (Setting.Color choice) }
+    {
+        if self.color.is_some() {
+            return None;
+        }
+        Some(Settings {
+            color: Some(choice),
             ..self
         })
     }
@@ -250,6 +304,7 @@ impl Settings {
                 input: Some(form),
                 ..self
             }),
+            Setting::Color(choice) => self.with_color(choice),
             _ => None,
         }
     }

@@ -2,44 +2,17 @@
 ghost use Rattle.std.specs.Prelude.{◌≡◌, is_some, option_map, IfOk, IfErr};
 ghost use Rattle.mezdruk_arguments.specs.Operands.{path_formed, edits_formed};
 ghost use Rattle.mezdruk_arguments.specs.declared.problem.OperandError.TheVariants as OperandError;
-ghost use Rattle.json_number.specs.Numbers.{value_of};
 ghost use Rattle.json_patch.specs.Lookups.{pointer_tokens};
 ghost use Rattle.json_patch.specs.Pointer.{pointer_of};
 ghost use Rattle.json_value.specs.Denotes.{tree_of};
-ghost use Rattle.json_value.specs.EditTrees.{index_of, step_in};
-ghost use Rattle.json_value.specs.Seen.{seen};
 
-use crate::operand::OperandKind;
 use crate::problem::OperandError;
 use json_data::from_value;
-use json_number::{JsonNumberTrait, Number};
 use json_patch::{PatchCode, Pointer};
 use json_tokens::is_refusal;
 use json_value::{Edit, Path, Value, View};
+use mezdruk_help::{edit_fault, is_step};
 use std::alloc::Global;
-
-// Whether a number is an index.
-fn is_index(number: Number) -> bool
-    ensures { result ≡ is_some (index_of (value_of number)) }
-{
-    match number.as_u64() {
-        Some(index) => u32::try_from(index).is_ok(),
-        None => false,
-    }
-}
-
-/// Returns whether a value is a step: a key or an index.
-pub(crate) fn is_step(view: View<'_>) -> bool
-    ensures { result ≡ is_some (step_in (seen view.entry)) }
-{
-    if view.text().is_some() {
-        return true;
-    }
-    match view.as_number() {
-        Some(number) => is_index(number),
-        None => false,
-    }
-}
 
 /// Returns the JSON Pointer that a text spells, or `None` if it spells none. Fails if memory runs
 /// out.
@@ -81,29 +54,30 @@ pub(crate) fn are_edits(alloc: Global, value: &Value) -> Result<bool, OperandErr
     }
 }
 
-// Whether an element is an edit. Where memory runs out it is none.
-fn is_edit_value(alloc: Global, view: View<'_>) -> bool {
-    match view.to_value(alloc) {
-        Ok(value) => from_value::<Edit>(alloc, &value).is_ok(),
-        Err(_) => false,
+/// Returns the index of the first element that is no step, counted from 0. Returns `None` if there is
+/// none, or if the value is no array.
+pub(crate) fn first_wrong_step(value: View<'_>) -> Option<usize> {
+    let array = value.as_array()?;
+    let mut index = 0usize;
+    for element in array.iter() {
+        if !is_step(element) {
+            return Some(index);
+        }
+        index = index.saturating_add(1);
     }
+    None
 }
 
-/// Returns the index of the first element that is no edit or no step, counted from 0. Returns
-/// `None` if the value is no array, or if the operand is not one of edits or steps.
-pub(crate) fn first_unspelled(alloc: Global, kind: OperandKind, value: &Value) -> Option<usize> {
-    let array = value.view().as_array()?;
-    let mut number = 0usize;
-    'elements: for element in array.iter() {
-        let spelled = match kind {
-            OperandKind::Edits => is_edit_value(alloc, element),
-            OperandKind::Path => is_step(element),
-            _ => return None,
-        };
-        if !spelled {
-            return Some(number);
+/// Returns the index of the first element that is no edit, counted from 0, and what is wrong with
+/// it. Returns `None` if there is none, or if the value is no array.
+pub(crate) fn first_wrong_edit(value: View<'_>) -> Option<(usize, &'static str)> {
+    let array = value.as_array()?;
+    let mut index = 0usize;
+    for element in array.iter() {
+        if let Some(reason) = edit_fault(element) {
+            return Some((index, reason));
         }
-        number = number.saturating_add(1);
+        index = index.saturating_add(1);
     }
     None
 }

@@ -147,7 +147,7 @@ impl Verb {
         ensures { result ≡ takes self setting }
     {
         match setting {
-            Setting::Layout(_) | Setting::SortKeys => self != Verb::Check,
+            Setting::Layout(_) | Setting::SortKeys | Setting::Color(_) => self != Verb::Check,
             Setting::InPlace | Setting::Verbose => !matches!(
                 self,
                 Verb::Check | Verb::Get | Verb::Keys | Verb::Length | Verb::Diff

@@ -1,5 +1,6 @@
 // What each command does with the documents.
 
+use crate::color::prints_colors;
 use crate::compare::{compare, overlay};
 use crate::files::{ReadFault, read_bytes, report_unread};
 use crate::inlet::Reading;
@@ -74,6 +75,7 @@ impl<'a> Task<'a> {
             reading: self.reading(rt),
             in_place: self.settings.in_place,
             keeps_layout: self.settings.keeps_layout(self.verb),
+            has_colors: prints_colors(rt, self.settings),
             changed: Cell::new(0),
         };
         let status = run_files(rt, console, self.files, &work);

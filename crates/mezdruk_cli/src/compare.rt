@@ -1,15 +1,14 @@
 // Documents that are compared, or laid over one another.
 
 use crate::changes::Task;
-use crate::files::{read_document, report_unread};
+use crate::color::prints_colors;
+use crate::files::{bytes_of, read_document, report_invalid, report_unread};
 use crate::missing::Target;
 use crate::outlet::Outlet;
 use json_command::{Console, Status, report, report_text};
-use json_text::{Error, StdSink};
+use json_text::StdSink;
 use json_value::Value;
-use mezdruk_files::{
-    Comparison, MergeInTurn, PatchForm, PatchStyle, input_report, print_difference, read_value,
-};
+use mezdruk_files::{Comparison, MergeInTurn, PatchForm, PatchStyle, print_difference, read_value};
 use std::cell::Cell;
 
 /// The status if two documents differ.
@@ -38,28 +37,6 @@ impl<'a> Asked<'a> {
     }
 }
 
-// Reports a document that is not valid, and returns the status: that of arguments that are not
-// valid, since 1 says that two documents differ.
-fn report_invalid(
-    rt: &HostRuntime,
-    console: &mut Console,
-    name: &str,
-    bytes: &[u8],
-    error: &Error,
-) -> u8 {
-    if Status::of_error(error) == Status::OutOfMemory {
-        report(&mut console.errs, error);
-        return Status::OutOfMemory.number();
-    }
-    match input_report(rt.alloc(), name, bytes, error) {
-        Ok(report) => {
-            report_text(&mut console.errs, &report);
-            Status::InvalidArguments.number()
-        }
-        Err(_) => Status::OutOfMemory.number(),
-    }
-}
-
 // Returns the value of the document of a file. Fails with the status if an error was reported.
 fn read_file(
     rt: &HostRuntime,
@@ -71,15 +48,12 @@ fn read_file(
         Ok(document) => document,
         Err(fault) => return Err(report_unread(rt, console, file, fault)),
     };
-    let bytes: &[u8] = match &document.bytes {
-        Some(bytes) => bytes,
-        None => b"",
-    };
-    match read_value(rt.alloc(), bytes, task.settings.rules()) {
+    match read_value(rt.alloc(), bytes_of(&document), task.settings.rules()) {
         Ok(value) => Ok(value),
         Err(error) => {
-            let name = document.name.as_str();
-            Err(report_invalid(rt, console, name, bytes, &error))
+            // 1 says that two documents differ.
+            let status = Status::InvalidArguments;
+            Err(report_invalid(rt, console, &document, &error, status))
         }
     }
 }
@@ -111,7 +85,8 @@ fn print_patch(
         Err(status) => return status,
     };
     let closed = Cell::new(false);
-    let mut sink = StdSink::new(Outlet::new(rt.stdout(), &closed));
+    let has_colors = prints_colors(rt, asked.task.settings);
+    let mut sink = StdSink::new(Outlet::new(rt, has_colors, &closed));
     match print_difference(rt.alloc(), from, &to, asked.patch, &mut sink) {
         Ok(Comparison::Same) => Status::Success.number(),
         Ok(Comparison::Differ) => DIFFER,

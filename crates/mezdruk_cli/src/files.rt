@@ -1,9 +1,9 @@
 // Documents from files and from standard input.
 
 use crate::inlet::{Inlet, Reading};
-use json_command::{Console, Status, report_text};
-use json_text::{ErrorCode, Source, StdSource, read_all};
-use mezdruk_files::{NamedDocument, file_report};
+use json_command::{Console, Status, report, report_text};
+use json_text::{Error, ErrorCode, Source, StdSource, read_all};
+use mezdruk_files::{NamedDocument, file_report, input_report};
 use std::alloc::Global;
 use std::fs::File;
 use std::{fs, io};
@@ -102,6 +102,36 @@ pub fn read_document(
             bytes: Some(bytes),
         }),
         Err(_) => Err(ReadFault::OutOfMemory),
+    }
+}
+
+/// Returns the bytes of a document; none if they could not be read.
+pub fn bytes_of(document: &NamedDocument) -> &[u8] {
+    match &document.bytes {
+        Some(bytes) => bytes,
+        None => b"",
+    }
+}
+
+/// Reports why a document is not valid, and returns this status, or that of memory that ran out.
+pub fn report_invalid(
+    rt: &HostRuntime,
+    console: &mut Console,
+    document: &NamedDocument,
+    error: &Error,
+    status: Status,
+) -> u8 {
+    if Status::of_error(error) == Status::OutOfMemory {
+        report(&mut console.errs, error);
+        return Status::OutOfMemory.number();
+    }
+    let (name, bytes) = (document.name.as_str(), bytes_of(document));
+    match input_report(rt.alloc(), name, bytes, error) {
+        Ok(report) => {
+            report_text(&mut console.errs, &report);
+            status.number()
+        }
+        Err(_) => Status::OutOfMemory.number(),
     }
 }
 

@@ -1,31 +1,104 @@
-// Standard output, and whether its reader is gone.
+// Standard output, in colors or without, and standard error beside it.
+ghost use Rattle.std.specs.Io.{WritesAtMost};
+
+use mezdruk_files::Painter;
 use std::cell::Cell;
 use std::io;
 use std::io::Write;
-use std::rt::Stdout;
+use std::rt::{Stderr, Stdout};
 
-/// Standard output. It notes a write that failed because nobody reads any more, as in `| head`.
+/// Standard output, where the parts of JSON texts may have colors. It notes a write that failed
+/// because nobody reads any more, as in `| head`.
 #[derive(Drop)]
 pub struct Outlet<'a> {
     writer: Stdout,
     closed: &'a Cell<bool>,
+    painter: Option<Painter>,
+    // The bytes of the last write with their colors.
+    painted: Vec<u8>,
 }
 
 impl<'a> Outlet<'a> {
-    /// Creates an outlet that writes to `writer` and notes in `closed` that nobody reads it any
+    /// Creates an outlet, with colors or without, that notes in `closed` that nobody reads it any
     /// more.
-    pub fn new(writer: Stdout, closed: &'a Cell<bool>) -> Outlet<'a> {
-        Outlet { writer, closed }
+    pub fn new(rt: &HostRuntime, has_colors: bool, closed: &'a Cell<bool>) -> Outlet<'a> {
+        let painter = if has_colors {
+            Some(Painter::new(rt.alloc()))
+        } else {
+            None
+        };
+        Outlet {
+            writer: rt.stdout(),
+            closed,
+            painter,
+            painted: Vec::new(rt.alloc()),
+        }
+    }
+
+    // Paints bytes, and returns whether they are written in colors. If memory runs out, neither
+    // they nor any later ones are.
+    fn paint(&mut self, bytes: &[u8]) -> bool {
+        self.painted.clear();
+        if let Some(painter) = &mut self.painter {
+            if painter.paint(bytes, &mut self.painted).is_err() {
+                self.painter = None;
+            }
+        }
+        self.painter.is_some()
+    }
+
+    // Writes bytes: all of them in colors, or some of them without.
+    fn send(&mut self, bytes: &[u8]) -> io::Result<usize>
+        ensures { WritesAtMost result bytes.now }
+    {
+        if !self.paint(bytes) {
+            return self.writer.write(bytes);
+        }
+        match self.writer.write_all(&self.painted) {
+            Ok(()) => Ok(bytes.len()),
+            Err(error) => Err(error),
+        }
     }
 }
 
 impl<'a> Write for Outlet<'a> {
     fn write(&mut self, buf: &[u8]) -> io::Result<usize> {
-        let written = self.writer.write(buf);
+        let written = self.send(buf);
         if matches!(&written, Err(error) if error.kind() == io::ErrorKind::BrokenPipe) {
             self.closed.set(true);
         }
         written
+    }
+
+    fn flush(&mut self) -> io::Result<()> {
+        self.writer.flush()
+    }
+}
+
+/// Standard error, which writes nothing once nobody reads standard output any more.
+#[derive(Drop)]
+pub struct ErrorOutlet<'a> {
+    writer: Stderr,
+    closed: &'a Cell<bool>,
+}
+
+impl<'a> ErrorOutlet<'a> {
+    /// Creates an outlet for what is reported beside an [`Outlet`] that notes in `closed` that
+    /// nobody reads it any more.
+    pub fn new(rt: &HostRuntime, closed: &'a Cell<bool>) -> ErrorOutlet<'a> {
+        ErrorOutlet {
+            writer: rt.stderr(),
+            closed,
+        }
+    }
+}
+
+impl<'a> Write for ErrorOutlet<'a> {
+    fn write(&mut self, buf: &[u8]) -> io::Result<usize> {
+        if self.closed.get() {
+            return Ok(buf.len());
+        }
+        self.writer.write(buf)
     }
 
     fn flush(&mut self) -> io::Result<()> {

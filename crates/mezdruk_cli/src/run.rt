@@ -7,10 +7,11 @@ use crate::files::{
 use crate::in_place::replace_content;
 use crate::inlet::{Inlet, Reading};
 use crate::missing::{Target, hint_of_target};
-use crate::outlet::Outlet;
+use crate::outlet::{ErrorOutlet, Outlet};
+use crate::rpc::serve_file;
 use json_command::{Console, Status, report_text, write_text};
 use json_text::{StdSink, StdSource, VecSink, Words};
-use mezdruk_arguments::{help_asked, read_arguments};
+use mezdruk_arguments::{command_first, help_asked, read_arguments};
 use mezdruk_files::{
     EditedText, InputForm, Job, NamedDocument, NamedSource, ValueChange, edit_document,
     print_documents, print_lines,
@@ -49,8 +50,29 @@ fn command_of_help(words: &Words) -> Option<&str> {
     }
 }
 
-// Returns the arguments, where `help` and a command are the command and `--help`.
+// Whether an option comes first that the command may follow. None may follow one that asks for the
+// help or the version of the program.
+fn begins_with_option(words: &Words) -> bool {
+    if words.len() == 0 {
+        return false;
+    }
+    let first = words.word(0);
+    first.starts_with('-') && !matches!(first, "--help" | "-h" | "--version" | "-V")
+}
+
+// Returns the arguments with the command before the options that come first.
+fn arguments_in_order(rt: &HostRuntime, words: Words) -> json_text::Result<Words> {
+    if begins_with_option(&words) {
+        command_first(rt.alloc(), &words)
+    } else {
+        Ok(words)
+    }
+}
+
+// Returns the arguments with the command first, where `help` and a command are the command and
+// `--help`.
 fn arguments_meant(rt: &HostRuntime, words: Words) -> json_text::Result<Words> {
+    let words = arguments_in_order(rt, words)?;
     let mut meant = Words::new(rt.alloc());
     match command_of_help(&words) {
         Some(command) => {
@@ -70,10 +92,13 @@ pub fn run(rt: &HostRuntime, console: &mut Console) -> u8 {
     let Ok(words) = arguments_meant(rt, words) else {
         return Status::OutOfMemory.number();
     };
-    let (source, sink, errs) = (&mut console.source, &mut console.sink, &mut console.errs);
-    if let Some(status) = ABOUT_MEZDRUK.say_asked(&words, sink) {
+    if let Some(status) = ABOUT_MEZDRUK.say_asked(&words, &mut console.sink) {
         return status.number();
     }
+    if let Some(status) = serve_file(rt, console, &words) {
+        return status;
+    }
+    let (source, sink, errs) = (&mut console.source, &mut console.sink, &mut console.errs);
     match run_named(rt.alloc(), &words, source, sink, errs) {
         Some(status) => {
             console.explain_failure(rt.alloc(), "mezdruk", status);
@@ -96,6 +121,8 @@ pub struct Work<'a, C> {
     pub in_place: bool,
     /// Whether it is written in the layout that it has.
     pub keeps_layout: bool,
+    /// Whether what is printed on standard output has colors.
+    pub has_colors: bool,
     /// How many files were changed in place.
     pub changed: Cell<usize>,
 }
@@ -129,7 +156,7 @@ fn print_document<C: ValueChange>(
     work: &Work<'_, C>,
 ) -> u8 {
     let closed = Cell::new(false);
-    let mut sink = StdSink::new(Outlet::new(rt.stdout(), &closed));
+    let mut sink = StdSink::new(Outlet::new(rt, work.has_colors, &closed));
     let mut errs = VecSink::new(rt.alloc());
     let documents = [document];
     let status = print_documents(rt.alloc(), &documents, &work.job, &mut sink, &mut errs);
@@ -202,8 +229,10 @@ fn print_each_line<C: ValueChange>(
         name: shown_name(file),
         source: StdSource::new(inlet),
     };
-    let (sink, errs) = (&mut console.sink, &mut console.errs);
-    print_lines(rt.alloc(), &mut input, &work.job, sink, errs)
+    let closed = Cell::new(false);
+    let mut sink = StdSink::new(Outlet::new(rt, work.has_colors, &closed));
+    let mut errs = StdSink::new(ErrorOutlet::new(rt, &closed));
+    print_lines(rt.alloc(), &mut input, &work.job, &mut sink, &mut errs)
 }
 
 // Does what is asked for with one file, and returns the status.

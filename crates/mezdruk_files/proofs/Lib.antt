@@ -3,6 +3,7 @@ pub mod FoundLayouts
 pub mod CutLines
 pub mod ReadBytes
 pub mod TextWriting
+pub mod PrintedScalars
 pub mod Totals
 pub mod SmallStatuses
 pub mod Handled
@@ -12,6 +13,7 @@ pub mod ValueStreams
 pub mod HandledStreams
 pub mod HandledInputs
 pub mod Marks
+pub mod Painted
 pub mod ValuePaths
 pub mod EachLine
 pub mod EditedTexts

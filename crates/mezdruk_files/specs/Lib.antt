@@ -2,6 +2,7 @@ pub mod Changes
 pub mod PointedEdits
 pub mod Parts
 pub mod Excerpts
+pub mod PatchProblems
 pub mod Sentences
 pub mod Reports
 pub mod Writing
@@ -11,6 +12,7 @@ pub mod Documents
 pub mod Running
 pub mod Inputs
 pub mod Marks
+pub mod Colors
 pub mod EditLists
 pub mod PatchOutcomes
 pub mod Patches

@@ -35,7 +35,7 @@ abbrev pub change_name : ChangeCode → List ℕ
 change_name NoMemory = codes "NoMemory"
 change_name NotFound = codes "NotFound"
 change_name TypeUnmatched = codes "TypeUnmatched"
-change_name BadPatch = codes "BadPatch"
+change_name (BadPatch problem) = codes "BadPatch"
 change_name TestFailed = codes "TestFailed"
 
 abbrev pub document_error_name : DocumentError → List ℕ

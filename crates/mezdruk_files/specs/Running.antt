@@ -23,7 +23,7 @@ use Rattle.mezdruk_files.specs.declared.document_error.DocumentError.{DocumentEr
 use Rattle.mezdruk_files.specs.declared.document_error.DocumentError.TheVariants.{Input, Change}
 use Rattle.mezdruk_files.specs.declared.run.DocumentTally.{DocumentTally}
 use Rattle.mezdruk_files.specs.Documents.{DocumentsHave}
-use Rattle.mezdruk_files.specs.Outcomes.{Task, PartOutcome, output_of, reports_of, document_error_status, greatest_status}
+use Rattle.mezdruk_files.specs.Outcomes.{Task, PartOutcome, PartsHave, output_of, reports_of, document_error_status, greatest_status}
 use Rattle.mezdruk_files.specs.Parts.{DocumentPart}
 use Rattle.mezdruk_files.specs.Reports.{IsReport}
 use Rattle.mezdruk_files.specs.Writing.{WritesOutput, WritingFails}
@@ -88,6 +88,14 @@ pub record StopsRunning (Has : List PartOutcome → Type 0) (old new : DocumentT
   pub have : Has outcomes
   pub output : WritingFails sink sink' (output_of outcomes) error.code error.place
   pub reports : ReportsUnlessMuted old.muted new.muted errs errs' (reports_of outcomes)
+
+-- so of these parts, one after another
+abbrev pub HandlesParts : (DocumentPart → PartOutcome → Type 0) → List DocumentPart → DocumentTally → DocumentTally → SinkState → SinkState → SinkState → SinkState → Type 0
+HandlesParts Has parts old new sink sink' errs errs' = Handles (PartsHave true Has parts) old new sink sink' errs errs'
+
+-- ... but for the last ones
+abbrev pub StopsAmongParts : (DocumentPart → PartOutcome → Type 0) → List DocumentPart → DocumentTally → DocumentTally → SinkState → SinkState → SinkState → SinkState → Error → Type 0
+StopsAmongParts Has parts old new sink sink' errs errs' error = StopsRunning (PartsHave false Has parts) old new sink sink' errs errs' error
 
 -- ---- of the top call
 

@@ -11,6 +11,7 @@ use Rattle.mezdruk_files.specs.declared.document_error.DocumentError.{DocumentEr
 use Rattle.mezdruk_files.specs.declared.document_error.DocumentError.TheVariants.{Input, Change}
 use Rattle.mezdruk_files.specs.declared.part.Scope.{Scope}
 use Rattle.mezdruk_files.specs.declared.part.Scope.TheVariants.{Document, Line, Value}
+use Rattle.mezdruk_files.specs.PatchProblems.{problem_sentence}
 
 -- ---- sentences
 
@@ -47,7 +48,7 @@ abbrev pub change_sentence : ChangeCode → List ℕ
 change_sentence change.NoMemory = codes "memory ran out"
 change_sentence change.NotFound = codes "a key or an index is not there"
 change_sentence change.TypeUnmatched = codes "a key meets no object, or an index no array"
-change_sentence change.BadPatch = codes "the patch is not an array of operations"
+change_sentence (change.BadPatch problem) = problem_sentence problem
 change_sentence change.TestFailed = codes "`test` found another value"
 
 -- lower case letters alone

@@ -3,6 +3,8 @@ ghost use Rattle.std.specs.Prelude.{◌≡◌};
 ghost use Rattle.mezdruk_files.specs.Reports.{change_name};
 ghost use Rattle.mezdruk_files.specs.Sentences.{change_sentence};
 
+use crate::patch_problem::PatchProblem;
+
 /// The kinds of a [`ChangeError`].
 ///
 /// ```
@@ -18,8 +20,8 @@ pub enum ChangeCode {
     /// A path leads by a key into a value that is no object, or by an index into one that is no
     /// array.
     TypeUnmatched,
-    /// The patch is not an array of valid operations (RFC 6902, section 4).
-    BadPatch,
+    /// The patch is not an array of valid operations (RFC 6902, section 4), for this reason.
+    BadPatch(PatchProblem),
     /// An operation `test` found another value than the expected one (RFC 6902, section 4.6).
     TestFailed,
 }
@@ -33,7 +35,7 @@ impl ChangeCode {
             ChangeCode::NoMemory => "NoMemory",
             ChangeCode::NotFound => "NotFound",
             ChangeCode::TypeUnmatched => "TypeUnmatched",
-            ChangeCode::BadPatch => "BadPatch",
+            ChangeCode::BadPatch(_) => "BadPatch",
             ChangeCode::TestFailed => "TestFailed",
         }
     }
@@ -46,7 +48,7 @@ impl ChangeCode {
             ChangeCode::NoMemory => "memory ran out",
             ChangeCode::NotFound => "a key or an index is not there",
             ChangeCode::TypeUnmatched => "a key meets no object, or an index no array",
-            ChangeCode::BadPatch => "the patch is not an array of operations",
+            ChangeCode::BadPatch(problem) => problem.sentence(),
             ChangeCode::TestFailed => "`test` found another value",
         }
     }

@@ -14,7 +14,8 @@ use crate::change_error::{ChangeCode, ChangeError};
 use crate::document::read_bytes;
 use crate::document_error::DocumentError;
 use crate::each_line::write_lines;
-use json_command::{print_value, write_text};
+use crate::text::print_text;
+use json_command::write_text;
 use json_doc::Doc;
 use json_io::{Error, ErrorCode, Place, Result, Sink};
 use json_layout::Style;
@@ -115,7 +116,7 @@ fn print_document<K: Sink>(
             return write_text(sink, content.as_bytes());
         }
     }
-    print_value(alloc, value, style, sink)
+    print_text(alloc, value, style, sink)
 }
 
 /// Prints the line of the value, or nothing if there is no style.

@@ -120,10 +120,9 @@ fn lines_after<'a>(name: &'a str, before: usize, bytes: &'a [u8]) -> DocumentPar
 
 impl DocumentTally {
     ghost use Rattle.mezdruk_files.specs.Inputs.{HandlesInput, StopsInput};
-    ghost use Rattle.mezdruk_files.specs.Outcomes.{LineOutcome, PartsHave};
+    ghost use Rattle.mezdruk_files.specs.Outcomes.{LineOutcome};
     ghost use Rattle.mezdruk_files.specs.Parts.{HasFewLines, lines_of, parts_of_lines};
-    ghost use Rattle.mezdruk_files.specs.Running.{Handles, StopsRunning};
-    ghost use Rattle.std.specs.Prelude.{true};
+    ghost use Rattle.mezdruk_files.specs.Running.{HandlesParts, StopsAmongParts};
 
     // Prints each line or reports its error, and sends what is printed. Returns the number of lines
     // up to the end of these.
@@ -135,15 +134,13 @@ impl DocumentTally {
         errs: &mut E,
     ) -> Result<usize>
         requires few { HasFewLines (part_view lines) }
-        ensures ok { OnOk result (Handles
-            (PartsHave true (LineOutcome (task_of C.changed job.now))
-            (parts_of_lines (part_view lines.entry))) self.old self.new
+        ensures ok { OnOk result (HandlesParts (LineOutcome (task_of C.changed job.now))
+            (parts_of_lines (part_view lines.entry)) self.old self.new
             (K.state sink.old) (K.state sink.new) (E.state errs.old) (E.state errs.new)) }
         ensures number { IfOk result (λ n. n ≡ (part_view lines.entry).before
             + length (lines_of (part_view lines.entry).bytes)) }
-        ensures err { IfErr result (StopsRunning
-            (PartsHave false (LineOutcome (task_of C.changed job.now))
-            (parts_of_lines (part_view lines.entry))) self.old self.new
+        ensures err { IfErr result (StopsAmongParts (LineOutcome (task_of C.changed job.now))
+            (parts_of_lines (part_view lines.entry)) self.old self.new
             (K.state sink.old) (K.state sink.new) (E.state errs.old) (E.state errs.new)) }
         ensures reported { ReturnsWriteError (K.state sink.old) (K.state sink.new) result }
     {
@@ -164,13 +161,11 @@ impl DocumentTally {
         errs: &mut E,
     ) -> Result<()>
         requires few { HasFewLines (part_view lines) }
-        ensures ok { OnOk result (Handles
-            (PartsHave true (LineOutcome (task_of C.changed job.now))
-            (parts_of_lines (part_view lines.entry))) self.old self.new
+        ensures ok { OnOk result (HandlesParts (LineOutcome (task_of C.changed job.now))
+            (parts_of_lines (part_view lines.entry)) self.old self.new
             (K.state sink.old) (K.state sink.new) (E.state errs.old) (E.state errs.new)) }
-        ensures err { IfErr result (StopsRunning
-            (PartsHave false (LineOutcome (task_of C.changed job.now))
-            (parts_of_lines (part_view lines.entry))) self.old self.new
+        ensures err { IfErr result (StopsAmongParts (LineOutcome (task_of C.changed job.now))
+            (parts_of_lines (part_view lines.entry)) self.old self.new
             (K.state sink.old) (K.state sink.new) (E.state errs.old) (E.state errs.new)) }
         ensures reported { ReturnsWriteError (K.state sink.old) (K.state sink.new) result }
     {

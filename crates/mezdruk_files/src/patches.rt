@@ -1,16 +1,18 @@
 // Patches and merge patches as changes.
-ghost use Rattle.std.specs.Prelude.{◌≡◌, ◌<◌, ◌↔◌, ◌^◌, ℕ, length, Ok, None, Option, Result, IsTrue, IsSome, IfSome};
+ghost use Rattle.std.specs.Prelude.{◌≡◌, ◌<◌, ◌↔◌, ◌^◌, ℕ, length, Ok, None, Option, Result, IsTrue, IsSome, IfSome, Err};
 ghost use Rattle.json_doc.specs.Readings.{elements};
 ghost use Rattle.mezdruk_files.specs.Changes.{ChangeFails};
 ghost use Rattle.mezdruk_files.specs.PatchOutcomes.{outcome_of_patch};
 ghost use Rattle.json_grammar.specs.Tree.{Tree};
 ghost use Rattle.json_patch.specs.Errors.{PatchFails};
 ghost use Rattle.json_patch.specs.Merge.{merge_patched};
-ghost use Rattle.json_patch.specs.Patch.{PatchFailure, patched};
+ghost use Rattle.json_patch.specs.Patch.{PatchFailure, bad_patch, patched};
 ghost use Rattle.json_value.specs.Seen.{seen};
 
 use crate::change::ValueChange;
 use crate::change_error::{ChangeCode, ChangeError};
+use crate::patch_problem::find_problem;
+use crate::value_path::OUT_OF_MEMORY;
 use json_patch::{PatchCode, PatchError, apply_merge, apply_patch};
 use json_value::{Value, View};
 use std::alloc::Global;
@@ -89,10 +91,24 @@ impl<'a> ApplyMerge<'a> {
     }
 }
 
+// Returns the error of a patch that is none; without a number it is no array.
+fn bad_patch_error(alloc: Global, patch: View<'_>, number: Option<u32>) -> ChangeError
+    ensures { (made : Result Tree (PatchFailure × Option ℕ)) → made ≡ Err (bad_patch, number)
+        → ChangeFails (outcome_of_patch (seen patch.entry) made) result }
+{
+    match find_problem(alloc, patch, number) {
+        Ok(problem) => ChangeError {
+            code: ChangeCode::BadPatch(problem),
+            number,
+        },
+        Err(_) => OUT_OF_MEMORY,
+    }
+}
+
 // Returns the error of a patch.
-fn change_error(error: PatchError) -> ChangeError
+fn change_error(alloc: Global, patch: View<'_>, error: PatchError) -> ChangeError
     ensures { (made : Result Tree (PatchFailure × Option ℕ)) → PatchFails made error.code error.op
-        → ChangeFails (outcome_of_patch made) result }
+        → ChangeFails (outcome_of_patch (seen patch.entry) made) result }
 {
     let number = error.op;
     match error.code {
@@ -104,30 +120,25 @@ fn change_error(error: PatchError) -> ChangeError
             code: ChangeCode::TypeUnmatched,
             number,
         },
-        PatchCode::BadPatch => ChangeError {
-            code: ChangeCode::BadPatch,
-            number,
-        },
+        PatchCode::BadPatch => bad_patch_error(alloc, patch, number),
         PatchCode::TestFailed => ChangeError {
             code: ChangeCode::TestFailed,
             number,
         },
-        PatchCode::NoMemory | PatchCode::BadPointer => ChangeError {
-            code: ChangeCode::NoMemory,
-            number: None,
-        },
+        PatchCode::NoMemory | PatchCode::BadPointer => OUT_OF_MEMORY,
     }
 }
 
 impl<'a> ValueChange for ApplyPatch<'a> {
     ghost use Rattle.mezdruk_files.specs.Patches.{patch_tree};
 
-    ghost changed = { λ change tree. outcome_of_patch (patched tree (patch_tree change)) };
+    ghost changed = { λ change tree. outcome_of_patch (patch_tree change)
+        (patched tree (patch_tree change)) };
 
     fn apply(&self, alloc: Global, value: &mut Value) -> Result<(), ChangeError> {
         match apply_patch(alloc, value, self.patch) {
             Ok(()) => Ok(()),
-            Err(error) => Err(change_error(error)),
+            Err(error) => Err(change_error(alloc, self.patch, error)),
         }
     }
 
@@ -144,10 +155,7 @@ impl<'a> ValueChange for ApplyMerge<'a> {
     fn apply(&self, alloc: Global, value: &mut Value) -> Result<(), ChangeError> {
         match apply_merge(alloc, value, self.patch) {
             Ok(()) => Ok(()),
-            Err(_) => Err(ChangeError {
-                code: ChangeCode::NoMemory,
-                number: None,
-            }),
+            Err(_) => Err(OUT_OF_MEMORY),
         }
     }
 

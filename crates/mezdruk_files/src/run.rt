@@ -61,12 +61,12 @@ pub(crate) struct DocumentTally {
 
 impl DocumentTally {
     ghost use Rattle.mezdruk_files.specs.Documents.{BytesHave, DocumentHas};
-    ghost use Rattle.mezdruk_files.specs.Outcomes.{HasPartOutcome, LineOutcome, PartsHave, document_error_status};
+    ghost use Rattle.mezdruk_files.specs.Outcomes.{HasPartOutcome, LineOutcome, document_error_status};
     ghost use Rattle.mezdruk_files.specs.Streams.{IsNextPlace, ValueFails, StreamHas, ValueHas, ValuesHave, stream_value_place};
     ghost use Rattle.json_text.specs.Faults.{ValueFaultFrom};
     ghost use Rattle.std.specs.Str.{IsCharBoundary};
     ghost use Rattle.mezdruk_files.specs.Parts.{part_view, parts_of_lines, lines_of, whole_part as spec_whole_part};
-    ghost use Rattle.mezdruk_files.specs.Running.{ReportsError, ReportingFails};
+    ghost use Rattle.mezdruk_files.specs.Running.{HandlesParts, StopsAmongParts, ReportsError, ReportingFails};
     ghost use Rattle.mezdruk_files.specs.Sentences.{is_lower_case};
 
     // Reports an error, unless a report failed.
@@ -118,15 +118,11 @@ impl DocumentTally {
         errs: &mut E,
     ) -> Result<()>
         requires few { HasFewLines (part_view part) }
-        ensures ok { OnOk result (Handles
-            (PartsHave true (HasPartOutcome (task_of C.changed job.now))
-            (part_view part.entry ∷ []))
-            self.old self.new
+        ensures ok { OnOk result (HandlesParts (HasPartOutcome (task_of C.changed job.now))
+            (part_view part.entry ∷ []) self.old self.new
             (K.state sink.old) (K.state sink.new) (E.state errs.old) (E.state errs.new)) }
-        ensures err { IfErr result (StopsRunning
-            (PartsHave false (HasPartOutcome (task_of C.changed job.now))
-            (part_view part.entry ∷ []))
-            self.old self.new
+        ensures err { IfErr result (StopsAmongParts (HasPartOutcome (task_of C.changed job.now))
+            (part_view part.entry ∷ []) self.old self.new
             (K.state sink.old) (K.state sink.new) (E.state errs.old) (E.state errs.new)) }
         ensures reported { ReturnsWriteError (K.state sink.old) (K.state sink.new) result }
     {
@@ -147,15 +143,13 @@ impl DocumentTally {
         errs: &mut E,
     ) -> Result<usize>
         requires few { HasFewLines (part_view lines) }
-        ensures ok { OnOk result (Handles
-            (PartsHave true (LineOutcome (task_of C.changed job.now)) (parts_of_lines (part_view lines.entry)))
-            self.old self.new
+        ensures ok { OnOk result (HandlesParts (LineOutcome (task_of C.changed job.now))
+            (parts_of_lines (part_view lines.entry)) self.old self.new
             (K.state sink.old) (K.state sink.new) (E.state errs.old) (E.state errs.new)) }
         ensures number { IfOk result (λ n. n ≡ (part_view lines.entry).before
             + length (lines_of (part_view lines.entry).bytes)) }
-        ensures err { IfErr result (StopsRunning
-            (PartsHave false (LineOutcome (task_of C.changed job.now)) (parts_of_lines (part_view lines.entry)))
-            self.old self.new
+        ensures err { IfErr result (StopsAmongParts (LineOutcome (task_of C.changed job.now))
+            (parts_of_lines (part_view lines.entry)) self.old self.new
             (K.state sink.old) (K.state sink.new) (E.state errs.old) (E.state errs.new)) }
         ensures reported { ReturnsWriteError (K.state sink.old) (K.state sink.new) result }
     {

@@ -1,7 +1,7 @@
 // What is wrong with the value of an argument that is a JSON text.
+use crate::edits::{edit_fault, is_path, is_step, text_element};
 use crate::usage::{ArgumentForm, TextArgument};
-use json_number::JsonNumberTrait;
-use json_value::{ArrayView, View};
+use json_value::View;
 use std::alloc::{AllocError, Global};
 
 impl ArgumentForm {
@@ -30,72 +30,11 @@ impl ArgumentForm {
             ArgumentForm::Edits => Some(("edit", edit_fault(element)?)),
             ArgumentForm::Calls => Some(("edit, undo or redo", call_fault(element)?)),
             ArgumentForm::Columns => Some(("column", column_fault(element)?)),
-            ArgumentForm::Path if is_step_value(element) => None,
+            ArgumentForm::Path if is_step(element) => None,
             ArgumentForm::Path => Some(("string and no index", "")),
             ArgumentForm::Any => None,
         }
     }
-}
-
-// Whether a value is a step: a string, or an index from 0 that is below 2^32.
-fn is_step_value(value: View<'_>) -> bool {
-    if value.text().is_some() {
-        return true;
-    }
-    match value.as_number() {
-        Some(number) => number
-            .as_u64()
-            .is_some_and(|index| u32::try_from(index).is_ok()),
-        None => false,
-    }
-}
-
-// Whether a value is an array of steps.
-fn is_path_value(value: View<'_>) -> bool {
-    match value.as_array() {
-        Some(array) => array.iter().all(is_step_value),
-        None => false,
-    }
-}
-
-// Returns the string that is an element of an array.
-fn text_element<'a>(array: ArrayView<'a>, i: usize) -> Option<&'a str> {
-    array.get(i)?.text()
-}
-
-// Returns what is wrong with the operands of an edit of this name.
-fn operands_fault(name: &str, edit: ArrayView<'_>) -> Option<&'static str> {
-    if !edit.get(1).is_some_and(is_path_value) {
-        return Some("its path is no array of steps");
-    }
-    if name == "insert" && text_element(edit, 2).is_none() {
-        return Some("its key is no string");
-    }
-    if name == "remove" && !edit.get(2).is_some_and(is_step_value) {
-        return Some("its step is no string and no index");
-    }
-    None
-}
-
-// Returns what is wrong with an edit.
-fn edit_fault(value: View<'_>) -> Option<&'static str> {
-    let Some(edit) = value.as_array() else {
-        return Some("it is no array");
-    };
-    let Some(name) = text_element(edit, 0) else {
-        return Some("it does not begin with a name");
-    };
-    let form = match name {
-        "set" => (3, "it is not [\"set\", path, value]"),
-        "insert" => (4, "it is not [\"insert\", path, key, value]"),
-        "push" => (3, "it is not [\"push\", path, value]"),
-        "remove" => (3, "it is not [\"remove\", path, step]"),
-        _ => return Some("its name is none of set, insert, push and remove"),
-    };
-    if edit.len() != form.0 {
-        return Some(form.1);
-    }
-    operands_fault(name, edit)
 }
 
 // Returns what is wrong with an edit, an undo or a redo.
@@ -116,7 +55,7 @@ fn column_fault(value: View<'_>) -> Option<&'static str> {
     if column.len() != 2 {
         return Some("it is not [path, kind]");
     }
-    if !column.get(0).is_some_and(is_path_value) {
+    if !column.get(0).is_some_and(is_path) {
         return Some("its path is no array of steps");
     }
     match text_element(column, 1) {

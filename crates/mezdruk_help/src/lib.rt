@@ -12,6 +12,7 @@
 //! ```
 #![tactic(auto)]
 
+mod edits;
 mod first_invalid;
 mod forms;
 mod history;
@@ -22,14 +23,17 @@ mod reasons;
 mod report;
 mod reshape;
 mod rpc;
+mod unread;
 mod usage;
 
+pub use edits::{edit_fault, is_step};
 pub use history::{ABOUT_HISTORY, USAGE_HISTORY};
 pub use json_patch::{ABOUT_JSON_PATCH, USAGE_JSON_PATCH};
 pub use lines::{ABOUT_LINES, USAGE_LINES};
 pub use mezdruk::ABOUT_MEZDRUK;
 pub use reshape::{ABOUT_RESHAPE, USAGE_RESHAPE};
 pub use rpc::{ABOUT_RPC, USAGE_RPC};
+pub use unread::report_unread;
 pub use usage::{
     ALONE, ArgumentForm, MissingGroup, OPERAND_GROUP, OptionForm, OptionValue, TextArgument, Usage,
 };

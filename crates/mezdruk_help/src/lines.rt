@@ -10,7 +10,7 @@ const HELP: &str = "\
 mezdruk lines reads JSON Lines from standard input, one JSON text a line, and
 writes a row of cells for each line to standard output.
 
-Usage: mezdruk lines [--has=PATH] COLUMNS
+Usage: mezdruk lines [OPTION..] COLUMNS
 
 COLUMNS is a JSON array of 1 to 64 columns, [path, kind]:
   [path, \"text\"]   the string there, as JSON
@@ -25,6 +25,8 @@ The path [] is the root.
 Options, before or after the columns:
   --has=PATH    write a row only where the path leads to a value
       mezdruk lines --has='[\"error\"]' '[[[], \"json\"]]'
+  --csv         write CSV (RFC 4180): a header and a record for each row
+  --strict      stop at the first bad line
   -h, --help    print this text; given alone
   -V, --version print the version; given alone
 
@@ -32,11 +34,18 @@ The cells of a row are separated by tabs. A cell is - where the path leads to
 no value, or to one of another kind. Lines of whitespace are skipped. A line
 is bad if it has more than 1048576 bytes, is not UTF-8, or is no JSON text of
 at most 254 levels. Its number and its error go to standard error, and the
-other lines are filtered all the same.
+other lines are filtered all the same. With --strict no line after the first
+bad one has a row or an error.
+
+With --csv the cells are separated by commas, and a row ends with CR and LF.
+The header names each column by its path, as COLUMNS has it but without
+spaces. A string is written as it is, other values as JSON. A cell is between
+double quotes if it has a comma, a double quote, CR or LF, or is an empty
+string. Where there is no value the cell is empty.
 
 Status:
   0  done
-  1  done, and some line is bad
+  1  done, or with --strict stopped, and some line is bad
   2  the arguments are not valid
   4  reading failed
   5  writing failed
@@ -67,6 +76,16 @@ pub const USAGE_LINES: Usage = Usage {
                 form: ArgumentForm::Path,
             }),
             group: 1,
+        },
+        OptionForm {
+            name: "--csv",
+            value: OptionValue::Nothing,
+            group: 2,
+        },
+        OptionForm {
+            name: "--strict",
+            value: OptionValue::Nothing,
+            group: 3,
         },
         HELP_OPTION,
         SHORT_HELP_OPTION,

@@ -38,7 +38,8 @@ from 0:
   mezdruk set /version '\"1.3.0\"' package.json
 EDITS are as in `reshape`: '[[\"set\", [\"version\"], \"1.3.0\"]]'.
 
-Options, in any order, each at most once but for --path:
+Options, before COMMAND or after it, in any order, each at most once but for
+--path:
   -c, --compact, --pretty, --indent=N, --indent N, --tabs
                            no whitespace; an indent of two spaces, of N spaces,
                            0 to 8, or of a tab; compact where none is given, but
@@ -57,10 +58,18 @@ Options, in any order, each at most once but for --path:
                            and not with --depth=N
   --bom                    skip a byte order mark at the beginning of the input,
                            which is refused without it
+  -C, --color, --color=always; --color=auto; -M, --color=never
+                           colors for what is printed, but for --raw and -i:
+                           always; as without the option, on a terminal where
+                           NO_COLOR is empty and TERM is not dumb; never
   -i, --in-place           write each FILE in place, not of check, get, keys,
                            length and diff; an edit keeps the layout of the
                            file if no option asks for one
   -v, --verbose            beside -i: say how many of the files were changed
+  --document=FILE, --document FILE
+                           of rpc: begin with the document of FILE, not null
+  --save                   of rpc, beside that: write FILE in place after each
+                           change, before its reply, in the layout it has
   --edits=FILE, --patch=FILE, --merge=FILE
                            take EDITS or PATCH from a file, for edit, patch and
                            merge; before operands and files

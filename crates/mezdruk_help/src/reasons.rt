@@ -6,7 +6,7 @@ use crate::usage::{OPERAND_GROUP, OptionValue, TextArgument, Usage};
 use json_doc::read_document;
 use json_io::{ErrorCode, Words, fault_text};
 use std::alloc::{AllocError, Global};
-use strsim::levenshtein;
+use strsim::osa_distance;
 
 /// The greatest length in bytes of an argument that a report shows.
 pub(crate) const MAX_SHOWN: usize = 80;
@@ -29,7 +29,7 @@ impl Reason {
 }
 
 // Returns the option of more than one letter whose name is nearest, if it is near: at most 2
-// letters differ.
+// letters are added, left out, changed, or exchanged with the next one.
 fn nearest_option(
     alloc: Global,
     usage: &Usage,
@@ -38,7 +38,7 @@ fn nearest_option(
     let mut found = None;
     let mut least = 3;
     'options: for option in usage.options {
-        let distance = levenshtein(alloc, name, option.name)?;
+        let distance = osa_distance(alloc, name, option.name)?;
         if distance < least && option.name.starts_with("--") {
             least = distance;
             found = Some(option.name);

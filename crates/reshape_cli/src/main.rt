@@ -6,14 +6,17 @@
 #![tactic(auto)]
 
 use json_command::Console;
-use mezdruk_help::USAGE_RESHAPE;
+use mezdruk_help::{USAGE_RESHAPE, report_unread};
 use reshape::run;
 use std::process::ExitCode;
 
 fn main(rt: HostRuntime) -> ExitCode {
     let mut console = match Console::open(&rt, &USAGE_RESHAPE.about) {
         Ok(console) => console,
-        Err(status) => return ExitCode::from(status.number()),
+        Err(status) => {
+            report_unread(&rt, USAGE_RESHAPE.program, status);
+            return ExitCode::from(status.number());
+        }
     };
     let (source, sink, errs) = (&mut console.source, &mut console.sink, &mut console.errs);
     let status = run(rt.alloc(), &console.arguments, source, sink, errs);

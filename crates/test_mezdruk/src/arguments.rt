@@ -1,3 +1,4 @@
-// Arguments of the command line, each list with its whole report.
+// Arguments of the command line, each list with its whole report, and their order.
+mod order;
 mod read;
 mod rows;

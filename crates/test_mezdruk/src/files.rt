@@ -1,5 +1,6 @@
 // Documents in memory that are printed, changed and reported, lines, and sinks that fail.
 mod changes;
+mod colors;
 mod compared;
 mod documents;
 mod edited;

@@ -7,6 +7,8 @@ _mezdruk_lines() {
     ((COMP_CWORD == 1)) && words="--help --version"
     [[ $given =~ \ --(help|version)\  ]] && return
     [[ $given =~ \ --has[\ =] ]] || words+=" --has="
+    [[ $given =~ \ --csv\  ]] || words+=" --csv"
+    [[ $given =~ \ --strict\  ]] || words+=" --strict"
     mapfile -t COMPREPLY < <(compgen -W "$words" -- "$word")
     [[ ${COMPREPLY[*]} == --has= ]] && compopt -o nospace
 }

@@ -15,14 +15,19 @@ unset _mezdruk_folder _mezdruk_file _mezdruk_name
 _mezdruk_command() {
     local word=${COMP_WORDS[COMP_CWORD]} given=" ${COMP_WORDS[*]:2:COMP_CWORD-2} " words=""
     local command=${COMP_WORDS[1]}
-    # --indent=N and --edits=FILE come as three words, since bash breaks words at an equals sign.
+    # --indent=N, --color=WHEN and --edits=FILE come as three words, since bash breaks words at an equals sign.
     if [[ $word == = || ${COMP_WORDS[COMP_CWORD - 1]} == = ]]; then
+        if [[ $given =~ \ --color\ (=\ )?$ ]]; then
+            mapfile -t COMPREPLY < <(compgen -W "auto always never" -- "${word#=}")
+            return
+        fi
         [[ $given =~ \ --indent\ (=\ )?$ ]] || return
         mapfile -t COMPREPLY < <(compgen -W "0 1 2 3 4 5 6 7 8" -- "${word#=}")
         return
     fi
     [[ $word == -* && $given != *" -- "* ]] || return
     if [[ $command != check ]]; then
+        [[ $given =~ \ (-C|-M|--color)[\ =] ]] || words+=" --color="
         [[ $given =~ \ (-c|--(compact|pretty|tabs|indent))[\ =] ]] ||
             words+=" --compact --pretty --indent= --tabs"
         [[ $given =~ \ (-S|--sort-keys)\  ]] || words+=" --sort-keys"
@@ -51,18 +56,51 @@ _mezdruk_command() {
     mapfile -t COMPREPLY < <(compgen -W "$words" -- "$word")
     [[ ${#COMPREPLY[@]} == 1 && ${COMPREPLY[0]} == *= ]] && compopt -o nospace
 }
+# The options of `rpc` over a file, which the program mezdruk-rpc does not have.
+_mezdruk_rpc_over_file() {
+    local word=${COMP_WORDS[COMP_CWORD]} given=" ${COMP_WORDS[*]:2:COMP_CWORD-2} " words=""
+    COMPREPLY=()
+    [[ $word == -* ]] || return
+    ((COMP_CWORD != 2)) || words="--help --version"
+    [[ $given =~ \ --document[\ =] ]] || words+=" --document="
+    [[ $given =~ \ --save\  ]] || words+=" --save"
+    mapfile -t COMPREPLY < <(compgen -W "$words" -- "$word")
+    [[ ${#COMPREPLY[@]} == 1 && ${COMPREPLY[0]} == *= ]] && compopt -o nospace
+}
+# Sets `at` to the index of the command. Options may come before it, some with a value.
+_mezdruk_find_command() {
+    at=1
+    while ((at < COMP_CWORD)) && [[ ${COMP_WORDS[at]} == -[^0-9]* && ! ${COMP_WORDS[at]} =~ ^--(help|version|build|)$ ]]; do
+        if [[ ${COMP_WORDS[at + 1]} == = ]]; then
+            ((at += 3))
+        elif [[ ${COMP_WORDS[at]} =~ ^--(indent|document)$ ]]; then
+            ((at += 2))
+        else
+            ((at += 1))
+        fi
+    done
+}
 _mezdruk() {
-    local word=${COMP_WORDS[COMP_CWORD]} first=${COMP_WORDS[1]} programs=$_mezdruk_programs words=""
+    local word=${COMP_WORDS[COMP_CWORD]} programs=$_mezdruk_programs words="" at first
     # A path leads to the script, which also builds the programs.
     local script=""
     [[ ${COMP_WORDS[0]} == */* ]] && script=yes programs+=" json_patch"
     COMPREPLY=()
+    _mezdruk_find_command
+    ((at <= COMP_CWORD)) || return
+    first=${COMP_WORDS[at]}
+    COMP_WORDS=("${COMP_WORDS[0]}" "$first" "${COMP_WORDS[@]:1:at-1}" "${COMP_WORDS[@]:at+1}")
     if ((COMP_CWORD == 1)); then
         words="$programs $_mezdruk_commands help --help --version${script:+ --build}"
+    elif ((at == COMP_CWORD)); then
+        words="$_mezdruk_programs $_mezdruk_commands"
     elif [[ $script && $first == --build ]]; then
         words="$programs mezdruk all"
     elif [[ $first == help ]]; then
         ((COMP_CWORD != 2)) || words="$_mezdruk_programs $_mezdruk_commands"
+    elif [[ $first == rpc ]]; then
+        _mezdruk_rpc_over_file
+        return
     elif [[ " $programs " == *" $first "* ]]; then
         COMP_WORDS=("${COMP_WORDS[@]:1}")
         ((COMP_CWORD -= 1))

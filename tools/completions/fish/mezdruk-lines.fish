@@ -8,5 +8,7 @@ end
 set -l alone 'test (count (commandline -opc)) -eq 1'
 complete -c mezdruk-lines -f
 complete -c mezdruk-lines -n '__mezdruk_lines_takes --has' -a '--has=' -d 'write a row only where the path leads to a value'
+complete -c mezdruk-lines -n '__mezdruk_lines_takes --csv' -l csv -d 'write CSV: a header and a record for each row'
+complete -c mezdruk-lines -n '__mezdruk_lines_takes --strict' -l strict -d 'stop at the first bad line'
 complete -c mezdruk-lines -n $alone -l help -d 'print the arguments and statuses'
 complete -c mezdruk-lines -n $alone -l version -d 'print the version'

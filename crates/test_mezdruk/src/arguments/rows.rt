@@ -49,6 +49,12 @@ pub const ROWS: &str = r#"# valid
 |0|||fmt|--bom|-i|a.json|
 |0|||check|--stream|a.json|--bom|
 |0|||diff|--bom|a.json|b.json|
+|0|||fmt|--color|a.json|
+|0|||get|-C|/a|--raw|
+|0|||set|-M|/a|1|-i|a.json|
+|0|||diff|--color=auto|a.json|b.json|
+|0|||length|/a|--color=always|
+|0|||overlay|--color=never|a.json|
 # the command
 |2||mezdruk: there is no command|
 |2||mezdruk: there is no command `fmtt`; did you mean `fmt`?|fmtt|
@@ -72,6 +78,8 @@ pub const ROWS: &str = r#"# valid
 |2||mezdruk: there is no command `overlya`; did you mean `overlay`?|overlya|
 |2||mezdruk: there is no command `compare`; did you mean `diff`?|compare|
 |2||mezdruk: there is no command `members`; did you mean `keys`?|members|
+|2||mezdruk: there is no command `reshap`; did you mean `reshape`?|reshap|
+|2||mezdruk: there is no command `histroy`; did you mean `history`?|histroy|[]|
 |2||mezdruk: there is no command `package.json`|package.json|
 |2||mezdruk: there is no command `--pretty`|--pretty|fmt|
 |2||mezdruk: there is no command ``||
@@ -79,9 +87,12 @@ pub const ROWS: &str = r#"# valid
 |2||mezdruk fmt: there is no option `--prety`; did you mean `--pretty`?|fmt|--prety|
 |2||mezdruk fmt: there is no option `--sort`|fmt|--sort|
 |2||mezdruk fmt: there is no option `--boom`; did you mean `--bom`?|fmt|--boom|
+|2||mezdruk fmt: there is no option `--colour`; did you mean `--color`?|fmt|--colour|
+|2||mezdruk fmt: `--color=red`: the option takes `auto`, `always` or `never`|fmt|--color=red|
 |2||mezdruk fmt: there is no option `-x`|fmt|-x|
 |2||mezdruk check: the command has no option `--raw`|check|--raw|
 |2||mezdruk check: the command has no option `--compact`|check|--compact|
+|2||mezdruk check: the command has no option `--color`|check|--color|
 |2||mezdruk get: the command has no option `-i`|get|-i|
 |2||mezdruk set: the command has no option `--edits=e.json`|set|--edits=e.json|
 |2||mezdruk keys: the command has no option `-i`|keys|-i|
@@ -119,6 +130,7 @@ pub const ROWS: &str = r#"# valid
 |2||mezdruk diff: `--merge`: the option occurs twice|diff|--merge|--merge|
 |2||mezdruk set: `--string`: the option occurs twice|set|--string|--string|
 |2||mezdruk get: `--bom`: the option occurs twice|get|--bom|/a|--bom|
+|2||mezdruk fmt: `-M`: at most one of --color, -C and -M is taken, once|fmt|--color|-M|
 |2||mezdruk set: `--string`: the option has to come before VALUE|set|/a|"b"|--string|
 |2||mezdruk fmt: `--sort-keys`: the option occurs twice|fmt|--sort-keys|a|--sort-keys|
 |2||mezdruk fmt: `-i`: the option occurs twice|fmt|--in-place|-i|
@@ -160,7 +172,9 @@ pub const ROWS: &str = r#"# valid
 |2||mezdruk patch: PATCH is no JSON text: TrailingCharacters at offset 3, line 1 column 4|patch|[] []|
 # operands of another form
 |2||mezdruk edit: EDITS is no array of edits|edit|{}|
-|2||mezdruk edit: element 1 of EDITS is no edit|edit|[["push",[],1],["set",[]]]|
+|2||mezdruk edit: element 1 of EDITS is no edit: it is not ["set", path, value]|edit|[["push",[],1],["set",[]]]|
+|2||mezdruk edit: element 0 of EDITS is no edit: its name is none of set, insert, push and remove|edit|[["sett",[],1]]|
+|2||mezdruk edit: element 0 of EDITS is no edit: its path is no array of steps|edit|[["set","/a",1]]|
 |2||mezdruk set: PATH is no JSON Pointer and no array of steps|set|"version"|2|
 |2||mezdruk set: PATH is no JSON Pointer and no array of steps|set|"/version"|2|
 |2||mezdruk set: PATH is no JSON Pointer and no array of steps|set|/a~2|2|

@@ -160,18 +160,87 @@ fn a_patch(rt: HostRuntime) {
     assert!(rt; matches!(patch_makes(rt.alloc(), PATCH, PATCHED), Ok(true)));
 }
 
-const NO_PATCH: &[Row] = &[Row {
-    input: b"1",
-    outcome: Outcome {
-        output: b"",
-        reports: b"f: the patch is not an array of operations (BadPatch)\n",
-        status: 3,
+/// A patch that is none, and its report.
+struct NoPatch {
+    patch: &'static str,
+    report: &'static [u8],
+}
+
+const NO_PATCHES: &[NoPatch] = &[
+    NoPatch {
+        patch: "{}",
+        report: b"f: the patch is not an array of operations (BadPatch)\n",
     },
-}];
+    NoPatch {
+        patch: "[[]]",
+        report: b"f: operation 0: it is no object (BadPatch)\n",
+    },
+    NoPatch {
+        patch: "[{\"op\":\"test\",\"path\":\"\",\"value\":1},{}]",
+        report: b"f: operation 1: it has no `op` (BadPatch)\n",
+    },
+    NoPatch {
+        patch: "[{\"op\":\"add\",\"op\":\"test\",\"path\":\"\",\"value\":1}]",
+        report: b"f: operation 0: its `op` occurs twice (BadPatch)\n",
+    },
+    NoPatch {
+        patch: "[{\"op\":\"frob\",\"path\":\"\"}]",
+        report: b"f: operation 0: its `op` is none of add, remove, replace, move, copy and test \
+            (BadPatch)\n",
+    },
+    NoPatch {
+        patch: "[{\"op\":1}]",
+        report: b"f: operation 0: its `op` is none of add, remove, replace, move, copy and test \
+            (BadPatch)\n",
+    },
+    NoPatch {
+        patch: "[{\"op\":\"remove\"}]",
+        report: b"f: operation 0: it has no `path` (BadPatch)\n",
+    },
+    NoPatch {
+        patch: "[{\"op\":\"replace\",\"path\":\"a\",\"value\":1}]",
+        report: b"f: operation 0: its `path` is no JSON Pointer (BadPatch)\n",
+    },
+    NoPatch {
+        patch: "[{\"op\":\"test\",\"path\":\"\"}]",
+        report: b"f: operation 0: it has no `value` (BadPatch)\n",
+    },
+    NoPatch {
+        patch: "[{\"op\":\"copy\",\"path\":\"\"}]",
+        report: b"f: operation 0: it has no `from` (BadPatch)\n",
+    },
+    NoPatch {
+        patch: "[{\"op\":\"copy\",\"from\":[],\"path\":\"\"}]",
+        report: b"f: operation 0: its `from` is no JSON Pointer (BadPatch)\n",
+    },
+    NoPatch {
+        patch: "[{\"op\":\"move\",\"from\":\"/a\",\"path\":\"/a/b\"}]",
+        report: b"f: operation 0: its `path` leads into the value at its `from` (BadPatch)\n",
+    },
+];
+
+// Whether each is reported as it has to be, over a document.
+fn no_patches_are_reported(alloc: Global, rows: &[NoPatch]) -> Result<bool> {
+    for row in rows {
+        let outcome = Outcome {
+            output: b"",
+            reports: row.report,
+            status: 3,
+        };
+        let made = Row {
+            input: b"1",
+            outcome,
+        };
+        if !patch_makes(alloc, row.patch, &[made])? {
+            return Ok(false);
+        }
+    }
+    Ok(true)
+}
 
 #[test]
-fn a_patch_that_is_none(rt: HostRuntime) {
-    assert!(rt; matches!(patch_makes(rt.alloc(), "{}", NO_PATCH), Ok(true)));
+fn patches_that_are_none(rt: HostRuntime) {
+    assert!(rt; matches!(no_patches_are_reported(rt.alloc(), NO_PATCHES), Ok(true)));
 }
 
 // Whether a merge patch makes of inputs what the rows say.

@@ -27,6 +27,17 @@ const ROWS: &[Row] = &[
             status: 0,
         },
     },
+    // Scalars: numbers stay as they were written, and strings get the escapes that they need.
+    Row {
+        input: b"null\ntrue\nfalse\n-7\n18446744073709551615\n1e400\n2.50\n\
+            \"\\u0061\\/\\n\\\"\"\n\"\"\n",
+        outcome: Outcome {
+            output: b"null\ntrue\nfalse\n-7\n18446744073709551615\n1e400\n2.50\n\
+            \"a/\\n\\\"\"\n\"\"\n",
+            reports: b"",
+            status: 0,
+        },
+    },
     Row {
         input: b"1\r\n2\r\n",
         outcome: Outcome {

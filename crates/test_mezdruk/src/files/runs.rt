@@ -16,6 +16,7 @@ pub struct Outcome<'a> {
 }
 
 /// The input of a run over one document, and its outcome.
+#[derive(Drop)]
 pub struct Row {
     pub input: &'static [u8],
     pub outcome: Outcome<'static>,

@@ -222,3 +222,34 @@ const LIMITED: [Step; 11] = [
 fn a_limit_drops_the_oldest_changes(rt: HostRuntime) {
     assert!(rt; matches!(hold_of(rt.alloc(), TEXT, EDITS, &LIMITED), Ok(true)));
 }
+
+// The same of a copy of a history.
+fn hold_of_copy(alloc: Global, history: &History, steps: &[Step]) -> Result<bool> {
+    let mut copy = history.clone(alloc)?;
+    hold(alloc, &mut copy, steps)
+}
+
+const ONE_UNDONE: [Step; 5] = [
+    Step::Counts(5, 1),
+    Step::Redo(true),
+    Step::Shows(EDITED),
+    Step::Undo(true),
+    Step::Undo(true),
+];
+
+// Whether copies of a history are undone and redone as it would be, and leave it as it is.
+fn copies_hold(alloc: Global) -> Result<bool> {
+    let mut history = History::new(alloc, from_str::<Value>(alloc, TEXT)?);
+    make(alloc, &mut history, EDITS)?;
+    let all = hold_of_copy(alloc, &history, &UNDONE_AND_REDONE)?;
+    history.undo(alloc)?;
+    let one = hold_of_copy(alloc, &history, &ONE_UNDONE)?;
+    history.redo(alloc)?;
+    let value = history.into_value();
+    Ok(all && one && value.to_string(alloc)?.as_str() == EDITED)
+}
+
+#[test]
+fn a_copy_is_undone_alone(rt: HostRuntime) {
+    assert!(rt; matches!(copies_hold(rt.alloc()), Ok(true)));
+}

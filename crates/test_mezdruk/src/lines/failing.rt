@@ -13,14 +13,22 @@ const READ_AFTER_ERROR: &str =
 const WRITE_AFTER_ERROR: &str =
     "2: InvalidJsonValue at offset 0, line 1 column 1\nIo while writing\n";
 
-// The status of a run that prints the value of each line; 6 where memory runs out.
+// The option by which each line has a row, as it has without an option.
+const EACH_LINE: &str = "--has=[]";
+
+// The status of a run with an option that prints the value of each line; 6 where memory runs out.
 fn print_values<S: Source, K: Sink, E: Sink>(
     alloc: Global,
+    option: &str,
     source: &mut S,
     sink: &mut K,
     errs: &mut E,
 ) -> u8 {
     let mut words = Words::new(alloc);
+    match words.push(option) {
+        Ok(()) => {}
+        Err(_) => return 6,
+    }
     match words.push("[[[],\"json\"]]") {
         Ok(()) => status_of(alloc, &words, source, sink, errs),
         Err(_) => 6,
@@ -32,7 +40,7 @@ fn fails_at_read(alloc: Global, call: u64, expected: u8, errors: &str) -> bool {
     let failing = [call];
     let mut source = FakeSource::new(INPUT, 1, &failing);
     let (mut sink, mut errs) = (VecSink::new(alloc), VecSink::new(alloc));
-    let status = print_values(alloc, &mut source, &mut sink, &mut errs);
+    let status = print_values(alloc, EACH_LINE, &mut source, &mut sink, &mut errs);
     let written = if expected == 4 {
         OUTPUT.starts_with(sink.as_slice())
     } else {
@@ -64,6 +72,22 @@ fn a_source_that_fails_at_each_call(rt: HostRuntime) {
     }
 }
 
+// Whether a strict run ends at the bad line, where this call of the source would fail.
+fn ends_before_read(alloc: Global, call: u64) -> bool {
+    let failing = [call];
+    let mut source = FakeSource::new(INPUT, 1, &failing);
+    let (mut sink, mut errs) = (VecSink::new(alloc), VecSink::new(alloc));
+    let status = print_values(alloc, "--strict", &mut source, &mut sink, &mut errs);
+    let written = sink.as_slice() == b"1\n".as_slice();
+    status == 1 && written && errs.as_slice() == ERROR_ALONE.as_bytes()
+}
+
+// The bad line ends at call 3.
+#[test]
+fn a_strict_run_reads_no_more_after_a_bad_line(rt: HostRuntime) {
+    assert!(rt; ends_before_read(rt.alloc(), 4));
+}
+
 // The call of the sink that fails, the status, the output, and the errors.
 type Write = (u64, u8, &'static str, &'static str);
 
@@ -84,14 +108,14 @@ fn fails_at_write(alloc: Global, call: u64, expected: u8, output: &str, errors: 
     let failing = [call];
     let mut source = SliceSource::new(INPUT);
     let (mut sink, mut errs) = (FakeSink::new(alloc, 1, &failing), VecSink::new(alloc));
-    let status = print_values(alloc, &mut source, &mut sink, &mut errs);
+    let status = print_values(alloc, EACH_LINE, &mut source, &mut sink, &mut errs);
     let written = sink.as_slice() == output.as_bytes();
     status == expected && written && errs.as_slice() == errors.as_bytes()
 }
 
 // The first call is the flush before the first read. Calls 1 to 3 send the first row, a byte a call
-// and a flush, before the read that finds the end. Calls 4 to 6 send the second row before the end is
-// read again, and the last call is the flush at the end.
+// and a flush, before the read that finds the end. Calls 4 to 6 send the second row before the end
+// is read again, and the last call is the flush at the end.
 #[test]
 fn a_sink_that_fails_at_each_call(rt: HostRuntime) {
     for (call, status, output, errors) in WRITES {
@@ -107,7 +131,7 @@ fn fails_at_report(alloc: Global, call: u64) -> bool {
     let failing = [call];
     let mut source = SliceSource::new(b"1\nx\n3\ny\n");
     let (mut sink, mut errs) = (VecSink::new(alloc), FakeSink::new(alloc, 1, &failing));
-    let status = print_values(alloc, &mut source, &mut sink, &mut errs);
+    let status = print_values(alloc, EACH_LINE, &mut source, &mut sink, &mut errs);
     let told = Some(errs.as_slice()) == ERROR_ALONE.as_bytes().get(..call as usize);
     status == 1 && sink.as_slice() == OUTPUT && told
 }

@@ -47,6 +47,31 @@ true%0Afalse%0Anull%0A"true"|0|true%0Afalse%0A-%0A-%0A||[[[],"bool"]]|
 1|2||BadWords|--has=1|[[[],"text"]]|
 1|2||BadWords|--has=|[[[],"text"]]|
 1|2||BadWords|--has=[]|[[[],"text"]]|--has=[]|
+1|2||BadWords|--csv|
+1|2||BadWords|--csv|[[[],"text"]]|--csv|
+1|2||BadWords|--strict|--strict|[[[],"text"]]|
+1|2||BadWords|--Csv|[[[],"text"]]|
+1|2||BadWords|--csv=1|[[[],"text"]]|
+# the first bad line ends the run
+1%0A[%0A2|1|1%0A|2: EofWhileParsing at offset 1, line 1 column 2|--strict|[[[],"json"]]|
+1%0A[%0A{%0A2|1|1%0A|2: EofWhileParsing at offset 1, line 1 column 2|[[[],"json"]]|--strict|
+1%0A%0A2|0|1%0A2%0A||--strict|[[[],"json"]]|
+x|1||1: InvalidJsonValue at offset 0, line 1 column 1|--strict|[[[],"json"]]|
+1%0A%FF%0A%FF|1|1%0A|2: InvalidUTF8 at offset 0, line 1 column 1|--strict|[[[],"json"]]|
+{"a":1}%0A1%0A[%0A{"a":2}|1|1%0A|3: EofWhileParsing at offset 1, line 1 column 2|--has=["a"]|--strict|[[["a"],"json"]]|
+# CSV: a header, and records that end with CR and LF
+|0|"[""a""]"%0D%0A||--csv|[[["a"],"int"]]|
+%0A %0A|0|[],"[0,""b""]"%0D%0A||[[[],"int"],[[0, "b"],"text"]]|--csv|
+{"a":1,"b":"x"}|0|"[""a""]","[""b""]"%0D%0A1,x%0D%0A||--csv|[[["a"],"int"],[["b"],"text"]]|
+{"a":1}%0A[%0A{"a":2}|1|"[""a""]"%0D%0A1%0D%0A2%0D%0A|2: EofWhileParsing at offset 1, line 1 column 2|--csv|[[["a"],"int"]]|
+{"a":1}%0A[%0A{"a":2}|1|"[""a""]"%0D%0A1%0D%0A|2: EofWhileParsing at offset 1, line 1 column 2|--strict|--csv|[[["a"],"int"]]|
+{"a":1}%0A{"b":2}|0|"[""b""]"%0D%0A2%0D%0A||--csv|--has=["b"]|[[["b"],"int"]]|
+# fields between double quotes, and fields without a value
+"a,b"%0A"a\"b"%0A"a\nb"%0A"a\rb"%0A"\"\""%0A"\"a"|0|[]%0D%0A"a,b"%0D%0A"a""b"%0D%0A"a%0Ab"%0D%0A"a%0Db"%0D%0A""""""%0D%0A"""a"%0D%0A||--csv|[[[],"text"]]|
+""%0Anull%0A"a b"%0A"\t;'%C3%A9"|0|[]%0D%0A""%0D%0A%0D%0Aa b%0D%0A%09;'%C3%A9%0D%0A||--csv|[[[],"text"]]|
+[1.0,-0]%0A[18446744073709551615,-1]|0|[0],[1]%0D%0A,%0D%0A18446744073709551615,-1%0D%0A||--csv|[[[0],"int"],[[1],"int"]]|
+[true,false,null]|0|[0],[1],[2]%0D%0Atrue,false,%0D%0A||--csv|[[[0],"bool"],[[1],"bool"],[[2],"bool"]]|
+[1, "x", [2, 3], {"a": null}, null]|0|[0],[1],[2],[3],[4],[5]%0D%0A1,"""x""","[2,3]","{""a"":null}",null,%0D%0A||--csv|[[[0],"json"],[[1],"json"],[[2],"json"],[[3],"json"],[[4],"json"],[[5],"json"]]|
 # 64 columns are the most
 1|0|«63 1%09»1%0A||[«63 [[],"int"],»[[],"int"]]|
 1|2||BadWords|[«64 [[],"int"],»[[],"int"]]|

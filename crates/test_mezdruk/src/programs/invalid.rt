@@ -49,6 +49,9 @@ pub const INVALID_ROWS: &str = r#"# an option that there is not
 |2||BadWords%0Amezdruk lines: `--has={}`: PATH is no array of steps%0ARun `mezdruk lines --help` for usage.|lines|--has={}|[[[],"json"]]|
 |2||BadWords%0Amezdruk lines: `--has=["a",true]`: step 1 of PATH is no string and no index%0ARun `mezdruk lines --help` for usage.|lines|--has=["a",true]|[[[],"json"]]|
 |2||BadWords%0Amezdruk lines: `--has=[]`: the option occurs twice%0ARun `mezdruk lines --help` for usage.|lines|--has=[]|--has=[]|
+|2||BadWords%0Amezdruk lines: `--csv`: the option occurs twice%0ARun `mezdruk lines --help` for usage.|lines|--csv|--strict|--csv|[[[],"json"]]|
+|2||BadWords%0Amezdruk lines: `--strict=1`: the option takes no value%0ARun `mezdruk lines --help` for usage.|lines|--strict=1|[[[],"json"]]|
+|2||BadWords%0Amezdruk lines: there is no option `--cvs`; did you mean `--csv`?%0ARun `mezdruk lines --help` for usage.|lines|--cvs|[[[],"json"]]|
 |2||BadWords%0Amezdruk lines: `[]`: COLUMNS is no array of 1 to 64 columns%0ARun `mezdruk lines --help` for usage.|lines|[]|
 |2||BadWords%0Amezdruk lines: `["id","int"]`: element 0 of COLUMNS is no column: it is no array%0ARun `mezdruk lines --help` for usage.|lines|["id","int"]|
 |2||BadWords%0Amezdruk lines: `[[["id"]]]`: element 0 of COLUMNS is no column: it is not [path, kind]%0ARun `mezdruk lines --help` for usage.|lines|[[["id"]]]|

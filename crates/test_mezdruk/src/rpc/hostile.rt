@@ -7,7 +7,7 @@ const PARSE_ERROR: &str =
     "{\"jsonrpc\":\"2.0\",\"error\":{\"code\":-32700,\"message\":\"Parse error\"},\"id\":null}\n";
 
 // What a line shows, the line, and its reply from a document that is null.
-const LINES: [(&str, &str, &str); 26] = [
+const LINES: [(&str, &str, &str); 35] = [
     (
         "a repeated id",
         "{\"id\":1,\"id\":2,\"jsonrpc\":\"2.0\",\"method\":\"get\",\"params\":[[]]}",
@@ -69,8 +69,33 @@ const LINES: [(&str, &str, &str); 26] = [
         "{\"jsonrpc\":\"2.0\",\"error\":{\"code\":-32600,\"message\":\"Invalid Request\"},\"id\":null}\n",
     ),
     (
-        "params by name",
-        "{\"jsonrpc\":\"2.0\",\"method\":\"get\",\"params\":{\"path\":[]},\"id\":1}",
+        "a param of another name",
+        "{\"jsonrpc\":\"2.0\",\"method\":\"get\",\"params\":{\"Path\":[]},\"id\":1}",
+        "{\"jsonrpc\":\"2.0\",\"error\":{\"code\":-32602,\"message\":\"Invalid params\"},\"id\":1}\n",
+    ),
+    (
+        "a param that the method does not have",
+        "{\"jsonrpc\":\"2.0\",\"method\":\"get\",\"params\":{\"path\":[],\"value\":1},\"id\":1}",
+        "{\"jsonrpc\":\"2.0\",\"error\":{\"code\":-32602,\"message\":\"Invalid params\"},\"id\":1}\n",
+    ),
+    (
+        "a param that is missing by name",
+        "{\"jsonrpc\":\"2.0\",\"method\":\"set\",\"params\":{\"path\":[]},\"id\":1}",
+        "{\"jsonrpc\":\"2.0\",\"error\":{\"code\":-32602,\"message\":\"Invalid params\"},\"id\":1}\n",
+    ),
+    (
+        "a param that occurs twice",
+        "{\"jsonrpc\":\"2.0\",\"method\":\"set\",\"params\":{\"path\":[],\"path\":[]},\"id\":1}",
+        "{\"jsonrpc\":\"2.0\",\"error\":{\"code\":-32602,\"message\":\"Invalid params\"},\"id\":1}\n",
+    ),
+    (
+        "a param that occurs twice beside all others",
+        "{\"jsonrpc\":\"2.0\",\"method\":\"set\",\"params\":{\"path\":[],\"value\":1,\"value\":2},\"id\":1}",
+        "{\"jsonrpc\":\"2.0\",\"error\":{\"code\":-32602,\"message\":\"Invalid params\"},\"id\":1}\n",
+    ),
+    (
+        "no params by name",
+        "{\"jsonrpc\":\"2.0\",\"method\":\"get\",\"params\":{},\"id\":1}",
         "{\"jsonrpc\":\"2.0\",\"error\":{\"code\":-32602,\"message\":\"Invalid params\"},\"id\":1}\n",
     ),
     (
@@ -86,6 +111,26 @@ const LINES: [(&str, &str, &str); 26] = [
     (
         "a param too many",
         "{\"jsonrpc\":\"2.0\",\"method\":\"get\",\"params\":[[],[]],\"id\":1}",
+        "{\"jsonrpc\":\"2.0\",\"error\":{\"code\":-32602,\"message\":\"Invalid params\"},\"id\":1}\n",
+    ),
+    (
+        "a patch that is an object",
+        "{\"jsonrpc\":\"2.0\",\"method\":\"patch\",\"params\":[{}],\"id\":1}",
+        "{\"jsonrpc\":\"2.0\",\"error\":{\"code\":-32602,\"message\":\"Invalid params\"},\"id\":1}\n",
+    ),
+    (
+        "a patch whose second operation is none, after one that has no place",
+        "{\"jsonrpc\":\"2.0\",\"method\":\"patch\",\"params\":[[{\"op\":\"remove\",\"path\":\"/a\"},{\"op\":\"frob\"}]],\"id\":1}",
+        "{\"jsonrpc\":\"2.0\",\"error\":{\"code\":-32602,\"message\":\"Invalid params\"},\"id\":1}\n",
+    ),
+    (
+        "a patch by another name",
+        "{\"jsonrpc\":\"2.0\",\"method\":\"patch\",\"params\":{\"value\":[]},\"id\":1}",
+        "{\"jsonrpc\":\"2.0\",\"error\":{\"code\":-32602,\"message\":\"Invalid params\"},\"id\":1}\n",
+    ),
+    (
+        "a merge patch and one more",
+        "{\"jsonrpc\":\"2.0\",\"method\":\"merge\",\"params\":[{},{}],\"id\":1}",
         "{\"jsonrpc\":\"2.0\",\"error\":{\"code\":-32602,\"message\":\"Invalid params\"},\"id\":1}\n",
     ),
     (

@@ -1,50 +1,20 @@
-use Rattle.std.proofs.Common.{ℕ, List, Ok, Err, OnOk, IfErr, Result, sym, ap, subst}
-use Rattle.std.proofs.lemmas.Result.{err_from_is_err_and}
-use Rattle.json_io.specs.Outside.{SinkState}
-use Rattle.json_io.specs.Transfer.{FlushesAll}
-use Rattle.json_io.specs.declared.error.Error.{Error}
-use Rattle.json_lines.specs.Rows.{Outcome, HasWithin}
-use Rattle.json_lines.specs.Steps.{RunState}
-use Rattle.json_lines.specs.Running.{run_state, IsFreshRun, FinishesLines}
-use Rattle.json_lines.specs.TopCall.{WritesAllRows, WritesFewerRows}
-use Rattle.json_lines.proofs.RunStatus.{WritesFewerRows-none, WritesAllRows-flushed, WritesFewerRows-flush, streams_of, with_sink}
+use Rattle.json_lines.specs.Rows.{HasWithin}
+use Rattle.json_lines.proofs.HeaderRows.{rows_after, rows_failed, header_failed}
 use Rattle.json_lines.proofs.run.write_all_rows.Goals as goal
-
-flushed : (has : List ℕ → Outcome → Type 0) (a c : RunState) (sink : SinkState) (r : Result (Unit {0}) Error) → IsFreshRun a → FinishesLines has a c → FlushesAll c.sink sink r → OnOk r (WritesAllRows has (streams_of a) (with_sink c sink) c.tally)
-flushed has a c sink (Ok u) fresh run flush = WritesAllRows-flushed has a c sink u fresh run flush
-flushed has a c sink (Err e) fresh run flush = tt
-
-unflushed : (has : List ℕ → Outcome → Type 0) (a c : RunState) (sink : SinkState) (r : Result (Unit {0}) Error) → FinishesLines has a c → FlushesAll c.sink sink r → IfErr r (λ e. WritesFewerRows has (streams_of a) (with_sink c sink) c.tally e)
-unflushed has a c sink (Ok u) run flush = tt
-unflushed has a c sink (Err e) run flush = WritesFewerRows-flush has a c sink e run flush
-
-pub returns-in_err-reader-clause-err : goal.returns-in_err-reader-clause-err
-returns-in_err-reader-clause-err g c =
-    let p = err_from_is_err_and c.from_residual.result c.from_residual.ensures.1 in
-    rw (p.1, p.2) (subst (WritesFewerRows _ _ _ _) (sym c.in_err-reader.ensures.only) (WritesFewerRows-none _ _ c.args.tally.now c.requires.unmuted))
 
 pub returns-in-Ok-clause-ok : goal.returns-in-Ok-clause-ok
 returns-in-Ok-clause-ok g c =
-    let has = g.R.RowWriter.has_outcome c.args.rows.now in
-    let limit = ap (λ s. s.limit) c.in_ok-reader.ensures.ok in
-    let a = run_state c.in_ok-reader.reader (g.S.Source.state c.args.source.now) (g.K.Sink.state c.args.sink.now) (g.E.Sink.state c.args.errs.now) c.args.tally.now in
-    let n = run_state c.write_rows.new.run.reader (g.S.Source.state c.write_rows.new.source) (g.K.Sink.state c.write_rows.new.sink) (g.E.Sink.state c.write_rows.new.errs) c.write_rows.new.tally in
-    let fresh : IsFreshRun a = record {
-      held = ap (λ s. s.held) c.in_ok-reader.ensures.ok;
-      received = ap (λ s. s.received) c.in_ok-reader.ensures.ok;
-      going = ap (λ s. s.stopped) c.in_ok-reader.ensures.ok;
-      number = c.requires.number;
-      good = c.requires.good;
-      unmuted = c.requires.unmuted;
-    } in
-    flushed (HasWithin 1048576 has) a n (g.K.Sink.state c.flush_all.new.sink) c.flush_all.result fresh
-    (subst (λ m. FinishesLines (HasWithin m has) a n) limit c.in-Ok.ensures.ok) c.flush_all.ensures
+    let rows = c.args.rows.now in
+    rows_after (HasWithin 1048576 (g.R.RowWriter.has_outcome rows)) (g.R.RowWriter.strict rows) (g.R.RowWriter.header rows) _ _ _ (g.K.Sink.state c.write_header.new.sink) _ _ _ c.write_lines.new.tally c.in-Ok.field-0 c.in-Ok.ensures
+    c.write_lines.result c.write_lines.ensures.ok
 
 pub returns-in-Ok-clause-err : goal.returns-in-Ok-clause-err
 returns-in-Ok-clause-err g c =
-    let has = g.R.RowWriter.has_outcome c.args.rows.now in
-    let limit = ap (λ s. s.limit) c.in_ok-reader.ensures.ok in
-    let a = run_state c.in_ok-reader.reader (g.S.Source.state c.args.source.now) (g.K.Sink.state c.args.sink.now) (g.E.Sink.state c.args.errs.now) c.args.tally.now in
-    let n = run_state c.write_rows.new.run.reader (g.S.Source.state c.write_rows.new.source) (g.K.Sink.state c.write_rows.new.sink) (g.E.Sink.state c.write_rows.new.errs) c.write_rows.new.tally in
-    unflushed (HasWithin 1048576 has) a n (g.K.Sink.state c.flush_all.new.sink) c.flush_all.result
-    (subst (λ m. FinishesLines (HasWithin m has) a n) limit c.in-Ok.ensures.ok) c.flush_all.ensures
+    let rows = c.args.rows.now in
+    rows_failed (HasWithin 1048576 (g.R.RowWriter.has_outcome rows)) (g.R.RowWriter.strict rows) (g.R.RowWriter.header rows) _ _ _ (g.K.Sink.state c.write_header.new.sink) _ _ _ c.write_lines.new.tally c.in-Ok.field-0 c.in-Ok.ensures
+    c.write_lines.result c.write_lines.ensures.err
+
+pub returns-in-Err-clause-err : goal.returns-in-Err-clause-err
+returns-in-Err-clause-err g c =
+    let rows = c.args.rows.now in
+    header_failed (HasWithin 1048576 (g.R.RowWriter.has_outcome rows)) (g.R.RowWriter.strict rows) (g.R.RowWriter.header rows) _ _ _ _ c.args.tally.now c.in-Err.error c.requires.unmuted c.in-Err.ensures

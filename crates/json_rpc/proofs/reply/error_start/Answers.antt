@@ -25,3 +25,7 @@ returns-in-NotFound c = rw c.in-NotFound.is refl
 pub returns-in-TypeUnmatched : goal.returns-in-TypeUnmatched
 unfolding shown_byte
 returns-in-TypeUnmatched c = rw c.in-TypeUnmatched.is refl
+
+pub returns-in-TestFailed : goal.returns-in-TestFailed
+unfolding shown_byte
+returns-in-TestFailed c = rw c.in-TestFailed.is refl

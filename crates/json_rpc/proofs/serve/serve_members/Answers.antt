@@ -21,3 +21,7 @@ members-preserved c =
       underway_next _ _ _ _ (seen c.in-Some.member) _ _ _ _ _ c.members.invariant.2 at c.in_ok-reply.ensures.ok (grind (arith, common_steps)),
       leaves_next _ _ _ (seen c.in-Some.member) _ _ _ c.members.invariant.3 at c.in_ok-reply.ensures.reads,
     )
+
+pub returns-in_err-push-clause-reads : goal.returns-in_err-push-clause-reads
+returns-in_err-push-clause-reads c all =
+    ((leaves_next _ _ _ (seen c.in-Some.member) _ _ _ c.members.invariant.3 c.in-Some.ensures.steps.0 c.in_ok-reply.ensures.reads).so all).0

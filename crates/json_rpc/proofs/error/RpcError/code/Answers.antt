@@ -25,3 +25,7 @@ returns-in-NotFound c = rw c.in-NotFound.is refl
 pub returns-in-TypeUnmatched : goal.returns-in-TypeUnmatched
 unfolding digits
 returns-in-TypeUnmatched c = rw c.in-TypeUnmatched.is refl
+
+pub returns-in-TestFailed : goal.returns-in-TestFailed
+unfolding digits
+returns-in-TestFailed c = rw c.in-TestFailed.is refl

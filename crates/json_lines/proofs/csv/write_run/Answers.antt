@@ -1,0 +1,6 @@
+use Rattle.std.proofs.Common.{◌∷◌, []}
+use Rattle.json_lines.proofs.TextWriting.{WritesText-first}
+use Rattle.json_lines.proofs.csv.write_run.Goals as goal
+
+pub returns-in-Err : goal.returns-in-Err
+returns-in-Err g c = WritesText-first _ _ c.args.run.now (34 ∷ []) c.in-Err.error c.in-Err.ensures
