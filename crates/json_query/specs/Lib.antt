@@ -1,0 +1,13 @@
+pub mod Query
+pub mod Nodes
+pub mod Slices
+pub mod Selecting
+pub mod NormalizedPaths
+pub mod ExampleQueries
+pub mod SelectorExamples
+pub mod Bookstore
+pub mod Indexes
+pub mod Locations
+pub mod Models
+pub mod ViewedNodes
+pub mod Laws
