@@ -119,6 +119,14 @@ impl Console {
         }
     }
 
+    /// Notes why a write to standard output failed that went by another stream than `sink`, so that
+    /// [`Console::explain_failure`] and `errs` know of it. `None` is no failure.
+    pub fn note_output(&self, failure: Option<io::ErrorKind>) {
+        if failure.is_some() {
+            self.written.set(failure);
+        }
+    }
+
     // Returns what failed in a run with this status, and why, where a reason is known.
     fn failure(&self, status: u8) -> Option<(&'static str, &'static str)> {
         let (failure, note) = if status == Status::ReadFailed.number() {

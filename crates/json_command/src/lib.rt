@@ -32,7 +32,7 @@ pub use about::About;
 pub use arguments::{BAD_WORDS, Console, arguments_error, read_argument};
 pub use document::read_document_from;
 pub use options::option_number;
-pub use output::{print_value, write_text};
+pub use output::{Printer, print_value, write_text};
 pub use reporting::{report, report_text};
 pub use status::Status;
 pub use streams::{ErrorStream, NotedStream};

@@ -150,6 +150,29 @@ impl<W: Sink> BufferedWriter<W> {
         self.inner
     }
 
+    /// Returns the inner sink, and the memory of the buffer for another writer. Bytes that are still
+    /// held are dropped: flush first to send them.
+    ///
+    /// ```
+    /// use json_layout::BufferedWriter;
+    /// use json_io::{VecSink, flush_all, put_all};
+    /// let mut first = BufferedWriter::new(alloc, VecSink::new(alloc))?;
+    /// put_all(&mut first, b"1")?;
+    /// flush_all(&mut first)?;
+    /// let (sink, buffer) = first.into_parts();
+    /// let mut second = BufferedWriter::with_buffer(buffer, sink);
+    /// put_all(&mut second, b"2")?;
+    /// flush_all(&mut second)?;
+    /// assert_eq!(rt; second.into_inner().as_slice(), b"12".as_slice());
+    /// ```
+    pub fn into_parts(self) -> (W, WriteBuffer)
+        ensures { (held : List ℕ)
+            × (⟦<BufferedWriter<W> as Sink>⟧.state self ≡ held_after (W.state result.0) held) }
+    {
+        let buffer = WriteBuffer { bytes: self.buffer };
+        (self.inner, buffer)
+    }
+
     // Puts a short string that needs no escape after a comma, unless it is the first, by one test
     // of room. Where that cannot be done nothing is put.
     #[inline(always)]

@@ -84,18 +84,19 @@ fn print_patch(
         Ok(to) => to,
         Err(status) => return status,
     };
-    let closed = Cell::new(false);
+    let failure = Cell::new(None);
     let has_colors = prints_colors(rt, asked.task.settings);
-    let mut sink = StdSink::new(Outlet::new(rt, has_colors, &closed));
+    let mut sink = StdSink::new(Outlet::new(rt, has_colors, &failure));
     match print_difference(rt.alloc(), from, &to, asked.patch, &mut sink) {
         Ok(Comparison::Same) => Status::Success.number(),
         Ok(Comparison::Differ) => DIFFER,
         Ok(Comparison::NoMergePatch) => report_no_patch(rt, console, file),
         Err(error) => {
-            if !closed.get() {
-                report(&mut console.errs, &error);
-            }
-            Status::of_error(&error).number()
+            let status = Status::of_error(&error).number();
+            console.note_output(failure.get());
+            report(&mut console.errs, &error);
+            console.explain_failure(rt.alloc(), "mezdruk", status);
+            status
         }
     }
 }

@@ -7,21 +7,23 @@ use std::io;
 use std::io::Write;
 use std::rt::{Stderr, Stdout};
 
-/// Standard output, where the parts of JSON texts may have colors. It notes a write that failed
-/// because nobody reads any more, as in `| head`.
+/// Standard output, where the parts of JSON texts may have colors. It notes why a write failed.
 #[derive(Drop)]
 pub struct Outlet<'a> {
     writer: Stdout,
-    closed: &'a Cell<bool>,
+    failure: &'a Cell<Option<io::ErrorKind>>,
     painter: Option<Painter>,
     // The bytes of the last write with their colors.
     painted: Vec<u8>,
 }
 
 impl<'a> Outlet<'a> {
-    /// Creates an outlet, with colors or without, that notes in `closed` that nobody reads it any
-    /// more.
-    pub fn new(rt: &HostRuntime, has_colors: bool, closed: &'a Cell<bool>) -> Outlet<'a> {
+    /// Creates an outlet, with colors or without, that notes in `failure` why a write failed.
+    pub fn new(
+        rt: &HostRuntime,
+        has_colors: bool,
+        failure: &'a Cell<Option<io::ErrorKind>>,
+    ) -> Outlet<'a> {
         let painter = if has_colors {
             Some(Painter::new(rt.alloc()))
         } else {
@@ -29,7 +31,7 @@ impl<'a> Outlet<'a> {
         };
         Outlet {
             writer: rt.stdout(),
-            closed,
+            failure,
             painter,
             painted: Vec::new(rt.alloc()),
         }
@@ -64,8 +66,8 @@ impl<'a> Outlet<'a> {
 impl<'a> Write for Outlet<'a> {
     fn write(&mut self, buf: &[u8]) -> io::Result<usize> {
         let written = self.send(buf);
-        if matches!(&written, Err(error) if error.kind() == io::ErrorKind::BrokenPipe) {
-            self.closed.set(true);
+        if let Err(error) = &written {
+            self.failure.set(Some(error.kind()));
         }
         written
     }
@@ -75,27 +77,27 @@ impl<'a> Write for Outlet<'a> {
     }
 }
 
-/// Standard error, which writes nothing once nobody reads standard output any more.
+/// Standard error, which writes nothing once nobody reads standard output any more, as in `| head`.
 #[derive(Drop)]
 pub struct ErrorOutlet<'a> {
     writer: Stderr,
-    closed: &'a Cell<bool>,
+    output: &'a Cell<Option<io::ErrorKind>>,
 }
 
 impl<'a> ErrorOutlet<'a> {
-    /// Creates an outlet for what is reported beside an [`Outlet`] that notes in `closed` that
-    /// nobody reads it any more.
-    pub fn new(rt: &HostRuntime, closed: &'a Cell<bool>) -> ErrorOutlet<'a> {
+    /// Creates an outlet for what is reported beside an [`Outlet`] that notes in `output` why a
+    /// write failed.
+    pub fn new(rt: &HostRuntime, output: &'a Cell<Option<io::ErrorKind>>) -> ErrorOutlet<'a> {
         ErrorOutlet {
             writer: rt.stderr(),
-            closed,
+            output,
         }
     }
 }
 
 impl<'a> Write for ErrorOutlet<'a> {
     fn write(&mut self, buf: &[u8]) -> io::Result<usize> {
-        if self.closed.get() {
+        if self.output.get() == Some(io::ErrorKind::BrokenPipe) {
             return Ok(buf.len());
         }
         self.writer.write(buf)

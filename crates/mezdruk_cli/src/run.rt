@@ -155,16 +155,16 @@ fn print_document<C: ValueChange>(
     document: NamedDocument,
     work: &Work<'_, C>,
 ) -> u8 {
-    let closed = Cell::new(false);
-    let mut sink = StdSink::new(Outlet::new(rt, work.has_colors, &closed));
+    let failure = Cell::new(None);
+    let mut sink = StdSink::new(Outlet::new(rt, work.has_colors, &failure));
     let mut errs = VecSink::new(rt.alloc());
     let documents = [document];
     let status = print_documents(rt.alloc(), &documents, &work.job, &mut sink, &mut errs);
     let [document] = documents;
-    if !closed.get() {
-        report_text(&mut console.errs, errs.as_slice());
-        work.add_hint(rt, console, &document, status);
-    }
+    console.note_output(failure.get());
+    report_text(&mut console.errs, errs.as_slice());
+    work.add_hint(rt, console, &document, status);
+    console.explain_failure(rt.alloc(), "mezdruk", status);
     status
 }
 
@@ -229,10 +229,13 @@ fn print_each_line<C: ValueChange>(
         name: shown_name(file),
         source: StdSource::new(inlet),
     };
-    let closed = Cell::new(false);
-    let mut sink = StdSink::new(Outlet::new(rt, work.has_colors, &closed));
-    let mut errs = StdSink::new(ErrorOutlet::new(rt, &closed));
-    print_lines(rt.alloc(), &mut input, &work.job, &mut sink, &mut errs)
+    let failure = Cell::new(None);
+    let mut sink = StdSink::new(Outlet::new(rt, work.has_colors, &failure));
+    let mut errs = StdSink::new(ErrorOutlet::new(rt, &failure));
+    let status = print_lines(rt.alloc(), &mut input, &work.job, &mut sink, &mut errs);
+    console.note_output(failure.get());
+    console.explain_failure(rt.alloc(), "mezdruk", status);
+    status
 }
 
 // Does what is asked for with one file, and returns the status.

@@ -3,12 +3,12 @@ use Rattle.std.proofs.Common.{◌≡◌, ◌⊎◌, inl, inr, ℕ, ◌+◌, ◌<
 use Rattle.std.specs.Prelude.{max, slice_index_or, string_bytes, option_map}
 use Rattle.std.proofs.lemmas.List.{drop_more, drop_all, nil_from_length}
 use Rattle.std.proofs.lemmas.List.Concat.{flat_map-append}
-use Rattle.std.specs.declared.alloc.Global.{Global}
 use Rattle.json_grammar.specs.Grammar.{ws}
 use Rattle.json_io.specs.Errors.{no_memory, reading_failed}
 use Rattle.json_io.specs.FaultText.{text_of}
 use Rattle.json_io.specs.Outside.{SinkState}
 use Rattle.json_io.specs.declared.error.Error.{Error}
+use Rattle.json_command.specs.declared.output.Printer.{Printer}
 use Rattle.json_command.specs.Reporting.{Reports, ReportsUnlessMuted}
 use Rattle.json_command.specs.Statuses.{status_of}
 use Rattle.mezdruk_files.specs.declared.document.NamedDocument.{NamedDocument}
@@ -234,15 +234,15 @@ module _ (task : Task) (ds : List NamedDocument) where
 
 -- ---- the top call
 
-module _ (alloc : Global) (task : Task) (ds : List NamedDocument) (t : DocumentTally) (a u b f : SinkState) where
-  pub prints_all : (n : ℕ) → n ≡ t.status → Handles (DocumentsHave true task ds) (record { alloc = alloc; status = 0; muted = false }) t a u b f → PrintsAll task ds a u b f n
+module _ (printer : Printer) (task : Task) (ds : List NamedDocument) (t : DocumentTally) (a u b f : SinkState) where
+  pub prints_all : (n : ℕ) → n ≡ t.status → Handles (DocumentsHave true task ds) (record { printer = printer; status = 0; muted = false }) t a u b f → PrintsAll task ds a u b f n
   prints_all n is h =
       record { outcomes = h.outcomes; have = h.have; output = h.output.ok; flushed = h.output.flushed; reports = Reports-from t.muted b f (reports_of h.outcomes) h.reports; status_is = omega (arith, is, h.status) }
 
-  pub small : Handles (DocumentsHave true task ds) (record { alloc = alloc; status = 0; muted = false }) t a u b f → t.status < 5
+  pub small : Handles (DocumentsHave true task ds) (record { printer = printer; status = 0; muted = false }) t a u b f → t.status < 5
   small h = omega (arith, h.status, greatest_small task ds h.outcomes h.have)
 
-  pub prints_some : (g : SinkState) (error : Error) (n : ℕ) → n ≡ status_of error.code error.place → StopsRunning (DocumentsHave false task ds) (record { alloc = alloc; status = 0; muted = false }) t a u b f error → (t.muted ≡ false → Reports (text_of error) f g) → (t.muted ≡ true → g ≡ f)
+  pub prints_some : (g : SinkState) (error : Error) (n : ℕ) → n ≡ status_of error.code error.place → StopsRunning (DocumentsHave false task ds) (record { printer = printer; status = 0; muted = false }) t a u b f error → (t.muted ≡ false → Reports (text_of error) f g) → (t.muted ≡ true → g ≡ f)
       → PrintsSome task ds a u b g n
   prints_some g error n is h reported silent =
       record {
@@ -254,7 +254,7 @@ module _ (alloc : Global) (task : Task) (ds : List NamedDocument) (t : DocumentT
         reports = Reports-last t.muted b f g (reports_of h.outcomes) (text_of error) h.reports reported silent;
       }
 
-  pub high : (error : Error) (n : ℕ) → n ≡ status_of error.code error.place → StopsRunning (DocumentsHave false task ds) (record { alloc = alloc; status = 0; muted = false }) t a u b f error → (n ≡ 5) ⊎ (n ≡ 6)
+  pub high : (error : Error) (n : ℕ) → n ≡ status_of error.code error.place → StopsRunning (DocumentsHave false task ds) (record { printer = printer; status = 0; muted = false }) t a u b f error → (n ≡ 5) ⊎ (n ≡ 6)
   high error n is h = subst (λ m. (m ≡ 5) ⊎ (m ≡ 6)) (sym is) (stops_high a u (output_of h.outcomes) error.code error.place h.output)
 
 pub not_high : (n : ℕ) → n < 5 → (n ≡ 5) ⊎ (n ≡ 6) → ⊥

@@ -1,7 +1,6 @@
 -- What is done with the lines of an input, block after block.
 use Rattle.std.proofs.Common.{◌≡◌, ◌⊎◌, inl, inr, ℕ, ◌+◌, ◌<◌, ◌≤◌, ◌^◌, Bool, true, false, List, [], ◌∷◌, ◌++◌, length, take, None, Some, Ok, Err, Option, refl, sym, ap, ◌∙◌, subst, append-nil, append_assoc, length-append, length-take, arith, lit<}
 use Rattle.std.specs.Prelude.{Result, OnOk}
-use Rattle.std.specs.declared.alloc.Global.{Global}
 use Rattle.json_io.specs.Errors.{no_memory}
 use Rattle.json_io.specs.FaultText.{text_of}
 use Rattle.json_io.specs.Known.{Consumes, Keeps, prepend_known, if_known}
@@ -13,6 +12,7 @@ use Rattle.json_io.specs.declared.error.Place.{Place}
 use Rattle.json_io.specs.declared.error.Place.TheVariants.{None as nowhere, Reading}
 use Rattle.json_io.proofs.Known.{Consumes-nil, Consumes-trans}
 use Rattle.json_text.specs.Faults.{ValueFaultFrom}
+use Rattle.json_command.specs.declared.output.Printer.{Printer}
 use Rattle.json_command.specs.Input.{max_bytes}
 use Rattle.json_command.specs.Reporting.{Reports}
 use Rattle.json_command.specs.Statuses.{status_of}
@@ -225,8 +225,8 @@ input_small task name b source source' (Some error) os ends h =
     (max_small (greatest_status h.first) (greatest_status (Refused (Input error) h.report ∷ [])) (parts_small true (LineOutcome task) (line_parts name 0 (lines_of h.before)) h.first (line_small task) h.have)
     (max_small (status_of error.code error.place) 0 (end_small source source' b error.code error.place ends) (lit< tt)))
 
-module _ (alloc : Global) (task : Task) (name : List ℕ) (source source' : SourceState) (t : DocumentTally) (a u b f : SinkState) where
-  pub prints_input : (n : ℕ) → n ≡ t.status → HandlesInput task name source source' (record { alloc = alloc; status = 0; muted = false }) t a u b f → PrintsInput task name source source' a u b f n
+module _ (printer : Printer) (task : Task) (name : List ℕ) (source source' : SourceState) (t : DocumentTally) (a u b f : SinkState) where
+  pub prints_input : (n : ℕ) → n ≡ t.status → HandlesInput task name source source' (record { printer = printer; status = 0; muted = false }) t a u b f → PrintsInput task name source source' a u b f n
   prints_input n is h =
       let k = h.handled in
       record {
@@ -242,10 +242,10 @@ module _ (alloc : Global) (task : Task) (name : List ℕ) (source source' : Sour
         status_is = omega (arith, is, k.status);
       }
 
-  pub input_status : HandlesInput task name source source' (record { alloc = alloc; status = 0; muted = false }) t a u b f → t.status < 5
+  pub input_status : HandlesInput task name source source' (record { printer = printer; status = 0; muted = false }) t a u b f → t.status < 5
   input_status h = omega (arith, h.handled.status, input_small task name h.bytes source source' h.end h.handled.outcomes h.ends h.handled.have)
 
-  pub prints_part : (g : SinkState) (error : Error) (n : ℕ) → n ≡ status_of error.code error.place → StopsInput task name source source' (record { alloc = alloc; status = 0; muted = false }) t a u b f error → (t.muted ≡ false → Reports (text_of error) f g) → (t.muted ≡ true → g ≡ f)
+  pub prints_part : (g : SinkState) (error : Error) (n : ℕ) → n ≡ status_of error.code error.place → StopsInput task name source source' (record { printer = printer; status = 0; muted = false }) t a u b f error → (t.muted ≡ false → Reports (text_of error) f g) → (t.muted ≡ true → g ≡ f)
       → PrintsPartOfInput task name source source' a u b g n
   prints_part g error n is h reported silent =
       let k = h.stopped in
@@ -260,5 +260,5 @@ module _ (alloc : Global) (task : Task) (name : List ℕ) (source source' : Sour
         reports = Reports-last t.muted b f g (reports_of k.outcomes) (text_of error) k.reports reported silent;
       }
 
-  pub part_status : (error : Error) (n : ℕ) → n ≡ status_of error.code error.place → StopsInput task name source source' (record { alloc = alloc; status = 0; muted = false }) t a u b f error → (n ≡ 5) ⊎ (n ≡ 6)
+  pub part_status : (error : Error) (n : ℕ) → n ≡ status_of error.code error.place → StopsInput task name source source' (record { printer = printer; status = 0; muted = false }) t a u b f error → (n ≡ 5) ⊎ (n ≡ 6)
   part_status error n is h = subst (λ m. (m ≡ 5) ⊎ (m ≡ 6)) (sym is) (stops_high a u (output_of h.stopped.outcomes) error.code error.place h.stopped.output)

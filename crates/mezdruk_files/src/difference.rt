@@ -8,6 +8,7 @@ ghost use Rattle.json_model.specs.Same.{same};
 ghost use Rattle.json_value.specs.Denotes.{tree_of};
 
 use crate::job::write_line;
+use json_command::Printer;
 use json_diff::{diff, merge_diff};
 use json_io::{Result, Sink};
 use json_layout::Style;
@@ -126,7 +127,7 @@ pub fn print_difference<K: Sink>(
         Ok(None) => return Ok(Comparison::NoMergePatch),
         Err(error) => return Err(error),
     };
-    match write_line(alloc, &patch, Some(asked.style), false, sink) {
+    match write_line(&Printer::new(alloc), &patch, Some(asked.style), false, sink) {
         Ok(()) => Ok(compared(from, to)),
         Err(error) => Err(error),
     }

@@ -6,14 +6,14 @@ ghost use Rattle.json_value.specs.Denotes.{tree_of};
 ghost use Rattle.json_value.specs.Seen.{elements_seen, seen};
 
 use crate::job::{Job, write_line};
+use json_command::Printer;
 use json_io::{Result, Sink};
 use json_layout::Style;
 use json_value::{ArrayView, Value, View};
-use std::alloc::Global;
 
 // Prints the line of the element.
 fn write_element<K: Sink>(
-    alloc: Global,
+    printer: &Printer,
     element: View<'_>,
     style: Option<Style<'_>>,
     raw: bool,
@@ -22,15 +22,15 @@ fn write_element<K: Sink>(
     ensures { WritesOutput (K.state sink.old) (K.state sink.new)
         (line_in raw style.entry (seen element.entry)) result }
 {
-    match element.to_value(alloc) {
-        Ok(value) => write_line(alloc, &value, style, raw, sink),
+    match element.to_value(printer.alloc()) {
+        Ok(value) => write_line(printer, &value, style, raw, sink),
         Err(error) => Err(error),
     }
 }
 
 // Prints the line of each element.
 fn write_each<K: Sink>(
-    alloc: Global,
+    printer: &Printer,
     array: ArrayView<'_>,
     style: Option<Style<'_>>,
     raw: bool,
@@ -40,7 +40,7 @@ fn write_each<K: Sink>(
         (flat_map (line_in raw style.entry) (elements_seen array.entry)) result }
 {
     'elements: for element in array.iter() {
-        match write_element(alloc, element, style, raw, sink) {
+        match write_element(printer, element, style, raw, sink) {
             Ok(()) => {}
             Err(error) => return Err(error),
         }
@@ -50,7 +50,7 @@ fn write_each<K: Sink>(
 
 /// Prints the lines of the changed value that the job asks for.
 pub(crate) fn write_lines<C, K: Sink>(
-    alloc: Global,
+    printer: &Printer,
     value: &Value,
     job: &Job<'_, C>,
     sink: &mut K,
@@ -59,10 +59,10 @@ pub(crate) fn write_lines<C, K: Sink>(
         (lines_in job.now.each job.now.raw job.now.style (tree_of value.now)) result }
 {
     if !job.each {
-        return write_line(alloc, value, job.style, job.raw, sink);
+        return write_line(printer, value, job.style, job.raw, sink);
     }
     match value.view().as_array() {
-        Some(array) => write_each(alloc, array, job.style, job.raw, sink),
+        Some(array) => write_each(printer, array, job.style, job.raw, sink),
         None => Ok(()),
     }
 }

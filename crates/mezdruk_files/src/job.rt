@@ -15,7 +15,7 @@ use crate::document::read_bytes;
 use crate::document_error::DocumentError;
 use crate::each_line::write_lines;
 use crate::text::print_text;
-use json_command::write_text;
+use json_command::{Printer, write_text};
 use json_doc::Doc;
 use json_io::{Error, ErrorCode, Place, Result, Sink};
 use json_layout::Style;
@@ -102,7 +102,7 @@ pub(crate) const OUT_OF_MEMORY: Error = Error {
 
 // Prints the text of the value, or the content of a string.
 fn print_document<K: Sink>(
-    alloc: Global,
+    printer: &Printer,
     value: &Value,
     style: Style<'_>,
     raw: bool,
@@ -116,12 +116,12 @@ fn print_document<K: Sink>(
             return write_text(sink, content.as_bytes());
         }
     }
-    print_text(alloc, value, style, sink)
+    print_text(printer, value, style, sink)
 }
 
 /// Prints the line of the value, or nothing if there is no style.
 pub(crate) fn write_line<K: Sink>(
-    alloc: Global,
+    printer: &Printer,
     value: &Value,
     style: Option<Style<'_>>,
     raw: bool,
@@ -133,7 +133,7 @@ pub(crate) fn write_line<K: Sink>(
     let Some(style) = style else {
         return Ok(());
     };
-    match print_document(alloc, value, style, raw, sink) {
+    match print_document(printer, value, style, raw, sink) {
         Ok(()) => write_text(sink, b"\n"),
         Err(error) => Err(error),
     }
@@ -162,7 +162,7 @@ fn changed_value<C: ValueChange>(
 /// Changes the value of a document and prints it with a newline, or returns why the change does not
 /// apply. Fails with `Io` at `Writing` if the sink fails, and with `NoMemory` if memory runs out.
 pub(crate) fn print_changed<C: ValueChange, K: Sink>(
-    alloc: Global,
+    printer: &Printer,
     doc: &Rc<Doc>,
     job: &Job<'_, C>,
     sink: &mut K,
@@ -173,12 +173,12 @@ pub(crate) fn print_changed<C: ValueChange, K: Sink>(
         (doc_tree doc.now.value (doc_root doc.now.value)) (K.state sink.old) (K.state sink.new)) }
     ensures reported { ReturnsWriteError (K.state sink.old) (K.state sink.new) result }
 {
-    let value = match changed_value(alloc, doc, &job.change) {
+    let value = match changed_value(printer.alloc(), doc, &job.change) {
         Ok(Ok(value)) => value,
         Ok(Err(error)) => return Ok(Some(error)),
         Err(error) => return Err(error),
     };
-    match write_lines(alloc, &value, job, sink) {
+    match write_lines(printer, &value, job, sink) {
         Ok(()) => Ok(None),
         Err(error) => Err(error),
     }
@@ -188,7 +188,7 @@ pub(crate) fn print_changed<C: ValueChange, K: Sink>(
 /// the document is not valid or the change does not apply. Fails with `Io` at `Writing` if the sink
 /// fails, and with `NoMemory` if memory runs out.
 pub(crate) fn print_bytes<C: ValueChange, K: Sink>(
-    alloc: Global,
+    printer: &Printer,
     bytes: &[u8],
     job: &Job<'_, C>,
     sink: &mut K,
@@ -199,14 +199,14 @@ pub(crate) fn print_bytes<C: ValueChange, K: Sink>(
         (K.state sink.old) (K.state sink.new)) }
     ensures reported { ReturnsWriteError (K.state sink.old) (K.state sink.new) result }
 {
-    let doc = match read_bytes(alloc, bytes, job.rules) {
+    let doc = match read_bytes(printer.alloc(), bytes, job.rules) {
         Ok(doc) => doc,
         Err(error) => match (error.code, error.place) {
             (ErrorCode::NoMemory, Place::None) => return Err(error),
             (_, _) => return Ok(Some(DocumentError::Input(error))),
         },
     };
-    match print_changed(alloc, &doc, job, sink) {
+    match print_changed(printer, &doc, job, sink) {
         Ok(None) => Ok(None),
         Ok(Some(error)) => Ok(Some(DocumentError::Change(error))),
         Err(error) => Err(error),

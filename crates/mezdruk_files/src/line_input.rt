@@ -12,7 +12,7 @@ use crate::document::MAX_BYTES;
 use crate::job::{Job, OUT_OF_MEMORY};
 use crate::part::{DocumentPart, Scope, whole_part};
 use crate::run::{DocumentTally, report_unless_muted};
-use json_command::{Status, write_text};
+use json_command::{Printer, Status, write_text};
 use json_io::{Error, ErrorCode, Failed, Place, Result, Sink, Source, VecSink};
 use memchr::memrchr;
 use std::alloc::Global;
@@ -144,7 +144,7 @@ impl DocumentTally {
             (K.state sink.old) (K.state sink.new) (E.state errs.old) (E.state errs.new)) }
         ensures reported { ReturnsWriteError (K.state sink.old) (K.state sink.new) result }
     {
-        let mut block = VecSink::new(self.alloc);
+        let mut block = VecSink::new(self.printer.alloc());
         let handled = self.handle_lines(lines, job, &mut block, errs);
         match write_text(sink, block.as_slice()) {
             Ok(()) => handled,
@@ -192,8 +192,8 @@ impl DocumentTally {
         ensures reported { ReturnsWriteError (K.state sink.old) (K.state sink.new) result }
     {
         let name = input.name;
-        let mut block = read_room(self.alloc)?;
-        let mut held = Vec::new(self.alloc);
+        let mut block = read_room(self.printer.alloc())?;
+        let mut held = Vec::new(self.printer.alloc());
         let mut number = 0;
         let mut received = 0;
         'reads: while received <= MAX_BYTES {
@@ -205,7 +205,7 @@ impl DocumentTally {
                 return self.send_last(lines_after(name, number, &held), job, sink, errs);
             }
             received += count;
-            let ended = match take_lines(self.alloc, &mut held, count) {
+            let ended = match take_lines(self.printer.alloc(), &mut held, count) {
                 Ok(ended) => ended,
                 Err(error) => return Err(error),
             };
@@ -260,7 +260,7 @@ pub fn print_lines<C: ValueChange, S: Source, K: Sink, E: Sink>(
     ensures write_error { ReturnsWriteStatus (K.state sink.old) (K.state sink.new) result }
 {
     let mut tally = DocumentTally {
-        alloc,
+        printer: Printer::new(alloc),
         status: 0,
         muted: false,
     };

@@ -17,7 +17,7 @@ use crate::job::{InputForm, Job, print_bytes, print_changed};
 use crate::part::{DocumentPart, Scope, is_blank, split_line, whole_part};
 use crate::report::document_report;
 use crate::value_stream::{StreamPlace, document_text, read_value_at, value_part};
-use json_command::{Status, report, write_text};
+use json_command::{Printer, Status, report, write_text};
 use json_io::{Error, ErrorCode, Place, Result, Sink, VecSink, put_all};
 use json_scan::ws_run;
 use std::alloc::Global;
@@ -51,8 +51,8 @@ fn write_if_long<K: Sink>(alloc: Global, printed: VecSink, sink: &mut K) -> Resu
 // The state of a run.
 #[derive(Drop)]
 pub(crate) struct DocumentTally {
-    // the allocator
-    pub(crate) alloc: Global,
+    // what prints the changed values
+    pub(crate) printer: Printer,
     // the greatest status so far
     pub(crate) status: u8,
     // whether a report failed, after which none is made
@@ -100,7 +100,7 @@ impl DocumentTally {
         ensures err { IfErr result (ReportingFails self.old self.new
             (E.state errs.old) (E.state errs.new)) }
     {
-        match document_report(self.alloc, part, error, part_name) {
+        match document_report(self.printer.alloc(), part, error, part_name) {
             Ok(text) => {
                 self.put_report(errs, error, &text);
                 Ok(())
@@ -126,7 +126,7 @@ impl DocumentTally {
             (K.state sink.old) (K.state sink.new) (E.state errs.old) (E.state errs.new)) }
         ensures reported { ReturnsWriteError (K.state sink.old) (K.state sink.new) result }
     {
-        match print_bytes(self.alloc, part.bytes, job, sink) {
+        match print_bytes(&self.printer, part.bytes, job, sink) {
             Ok(None) => Ok(()),
             Ok(Some(error)) => self.report_error(part, &error, job.change.part_name(), errs),
             Err(error) => Err(error),
@@ -222,14 +222,14 @@ impl DocumentTally {
         ensures reported { ReturnsWriteError (K.state sink.old) (K.state sink.new) result }
     {
         let whole = whole_part(place.name, place.text.as_bytes());
-        let (doc, next) = match read_value_at(self.alloc, place.text, place.offset) {
+        let (doc, next) = match read_value_at(self.printer.alloc(), place.text, place.offset) {
             Ok(read) => read,
             Err(error) => match self.handle_fault(whole, error, errs) {
                 Ok(()) => return Ok(None),
                 Err(error) => return Err(error),
             },
         };
-        let error = match print_changed(self.alloc, &doc, job, sink) {
+        let error = match print_changed(&self.printer, &doc, job, sink) {
             Ok(None) => return Ok(Some(next)),
             Ok(Some(error)) => DocumentError::Change(error),
             Err(error) => return Err(error),
@@ -262,7 +262,7 @@ impl DocumentTally {
         ensures reported { ReturnsWriteError (K.state sink.old) (K.state sink.new) result }
     {
         let text = start.text;
-        let mut block = VecSink::new(self.alloc);
+        let mut block = VecSink::new(self.printer.alloc());
         let mut offset = 0;
         let mut number = 0;
         'values: while ws_run(text.as_bytes(), offset) < text.len() {
@@ -280,7 +280,7 @@ impl DocumentTally {
                 Ok(None) => return write_text(sink, block.as_slice()),
                 Err(error) => return Err(error),
             }
-            match write_if_long(self.alloc, block, sink) {
+            match write_if_long(self.printer.alloc(), block, sink) {
                 Ok(left) => block = left,
                 Err(error) => return Err(error),
             }
@@ -453,7 +453,7 @@ pub fn print_documents<C: ValueChange, K: Sink, E: Sink>(
     ensures write_error { ReturnsWriteStatus (K.state sink.old) (K.state sink.new) result }
 {
     let mut tally = DocumentTally {
-        alloc,
+        printer: Printer::new(alloc),
         status: 0,
         muted: false,
     };

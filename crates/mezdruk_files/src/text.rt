@@ -8,12 +8,11 @@ ghost use Rattle.json_layout.specs.Styles.{printed};
 ghost use Rattle.json_number.specs.Numbers.{text_of_number};
 ghost use Rattle.json_value.specs.Denotes.{tree_of};
 
-use json_command::{print_value, write_text};
+use json_command::{Printer, write_text};
 use json_io::{Result, Sink, SinkResult, flush_all};
 use json_layout::{Style, add_number, add_string, add_unsigned, into_result};
 use json_number::{Integer, Number};
 use json_value::Value;
-use std::alloc::Global;
 
 // Returns the text of a boolean.
 fn boolean_text(boolean: bool) -> &'static str
@@ -44,9 +43,9 @@ fn add_integer<K: Sink>(number: Number, sink: &mut K) -> SinkResult
 }
 
 /// Prints the text of the value in the style. A scalar is written at once; an array or an object is
-/// written through a buffer, which costs more than to print a scalar.
+/// written through the buffer of the printer.
 pub(crate) fn print_text<K: Sink>(
-    alloc: Global,
+    printer: &Printer,
     value: &Value,
     style: Style<'_>,
     sink: &mut K,
@@ -60,6 +59,6 @@ pub(crate) fn print_text<K: Sink>(
         Value::Number(number) => flush_added(add_integer(*number, sink), sink),
         Value::Raw(literal) => write_text(sink, literal.as_str().as_bytes()),
         Value::Text(text) => flush_added(add_string(sink, text.as_str(), true), sink),
-        Value::Array(_) | Value::Object(_) => print_value(alloc, value, style, sink),
+        Value::Array(_) | Value::Object(_) => printer.print(value, style, sink),
     }
 }

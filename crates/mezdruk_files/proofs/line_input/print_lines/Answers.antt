@@ -19,16 +19,16 @@ returns-in-Ok-clause-known g c = inl (input_status _ _ _ _ _ _ _ _ _ _ c.in-Ok.e
 pub returns-in-Ok-clause-write_error : goal.returns-in-Ok-clause-write_error
 returns-in-Ok-clause-write_error g c = λ l. absurd (ok_no_error _ writing_failed (c.in-Ok.ensures.reported l))
 
-pub returns-in-Err-clause-done : goal.returns-in-Err-clause-done
-returns-in-Err-clause-done g c = λ low. absurd (not_high _ low (part_status _ _ _ _ _ _ _ _ _ _ c.in-Err.error _ (c.number.ensures ∙ ap status_number c.of_error.ensures) c.in-Err.ensures.err))
+pub returns-clause-done : goal.returns-clause-done
+returns-clause-done g c = λ low. absurd (not_high _ low (part_status _ _ _ _ _ _ _ _ _ _ c.in-Err.error _ (c.number.ensures ∙ ap status_number c.of_error.ensures) c.in-Err.ensures.err))
 
-pub returns-in-Err-clause-failed : goal.returns-in-Err-clause-failed
-returns-in-Err-clause-failed g c =
+pub returns-clause-failed : goal.returns-clause-failed
+returns-clause-failed g c =
     λ big. prints_part _ _ _ _ _ _ _ _ _ (g.E.Sink.state c.handle_input.new.errs) (g.E.Sink.state c.report_unless_muted.new.errs) c.in-Err.error _ (c.number.ensures ∙ ap status_number c.of_error.ensures) c.in-Err.ensures.err c.report_unless_muted.ensures.reported
     c.report_unless_muted.ensures.silent
 
-pub returns-in-Err-clause-known : goal.returns-in-Err-clause-known
-returns-in-Err-clause-known g c = inr (part_status _ _ _ _ _ _ _ _ _ _ c.in-Err.error _ (c.number.ensures ∙ ap status_number c.of_error.ensures) c.in-Err.ensures.err)
+pub returns-clause-known : goal.returns-clause-known
+returns-clause-known g c = inr (part_status _ _ _ _ _ _ _ _ _ _ c.in-Err.error _ (c.number.ensures ∙ ap status_number c.of_error.ensures) c.in-Err.ensures.err)
 
-pub returns-in-Err-clause-write_error : goal.returns-in-Err-clause-write_error
-returns-in-Err-clause-write_error g c = λ l. c.number.ensures ∙ ap status_number c.of_error.ensures ∙ reported_status c.in-Err.error (c.in-Err.ensures.reported l)
+pub returns-clause-write_error : goal.returns-clause-write_error
+returns-clause-write_error g c = λ l. c.number.ensures ∙ ap status_number c.of_error.ensures ∙ reported_status c.in-Err.error (c.in-Err.ensures.reported l)
