@@ -11,3 +11,8 @@ pub mod Locations
 pub mod Models
 pub mod ViewedNodes
 pub mod Laws
+pub mod Text
+pub mod TextStates
+pub mod Errors
+pub mod Reading
+pub mod TextLaws

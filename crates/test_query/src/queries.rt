@@ -6,14 +6,14 @@ use std::alloc::Global;
 use test_fixtures::{first_wrong, read};
 
 // The bookstore of RFC 9535, section 1.5.
-const BOOKSTORE: &str = r#"{"store": {"book": [
+pub(crate) const BOOKSTORE: &str = r#"{"store": {"book": [
 {"category": "reference", "author": "Nigel Rees", "title": "Sayings of the Century", "price": 8.95},
 {"category": "fiction", "author": "Evelyn Waugh", "title": "Sword of Honour", "price": 12.99},
 {"category": "fiction", "author": "Herman Melville", "title": "Moby Dick", "isbn": "0-553-21311-3", "price": 8.99},
 {"category": "fiction", "author": "J. R. R. Tolkien", "title": "The Lord of the Rings", "isbn": "0-395-19395-8", "price": 22.99}
 ], "bicycle": {"color": "red", "price": 399}}}"#;
 
-const LETTERS: &str = r#"["a", "b", "c", "d", "e", "f", "g"]"#;
+pub(crate) const LETTERS: &str = r#"["a", "b", "c", "d", "e", "f", "g"]"#;
 
 // Returns a selector of the name.
 fn name(alloc: Global, name: &str) -> Result<Selector> {
@@ -69,7 +69,7 @@ fn texts_of(alloc: Global, found: &[View<'_>]) -> Result<String> {
 }
 
 // Whether the query selects values with these texts.
-fn selects(alloc: Global, document: &str, query: &Query, want: &str) -> Result<bool> {
+pub(crate) fn selects(alloc: Global, document: &str, query: &Query, want: &str) -> Result<bool> {
     let document = read(alloc, document)?;
     let found = query.select(alloc, View::packed(document.view()))?;
     let texts = texts_of(alloc, found.as_slice())?;
