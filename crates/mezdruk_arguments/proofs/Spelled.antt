@@ -23,7 +23,10 @@ use Rattle.json_patch.specs.declared.error.PatchCode.{PatchCode}
 use Rattle.json_patch.specs.declared.error.PatchCode.TheVariants.{NoMemory as NoPatchMemory, BadPointer}
 use Rattle.json_value.specs.declared.value.Value.{Value}
 use Rattle.json_value.specs.Denotes.{tree_of}
-use Rattle.mezdruk_arguments.specs.Operands.{edits_formed}
+use Rattle.json_query.specs.Errors.{ParsingFails}
+use Rattle.json_query.specs.declared.error.QueryCode.{QueryCode}
+use Rattle.json_query.specs.declared.error.QueryCode.TheVariants.{NoMemory as NoQueryMemory}
+use Rattle.mezdruk_arguments.specs.Operands.{edits_formed, IsQueryText}
 
 -- an error that is a refusal is one of the tree
 pub refused : (f : Tree → Reading) (t : Tree) (c : ErrorCode) (p : Place) → is_refusal c ≡ true → TreeReadingFails f t c p → (d : ErrorCode) × (f t ≡ refuses d)
@@ -81,6 +84,11 @@ no_pointer o BadPointer None h k = sym h
 no_pointer o NoPatchMemory n h k = absurd (k refl)
 no_pointer o BadPointer (Some n) h k = absurd h
 no_pointer o c n h k = absurd h
+
+-- why no query is read: memory ran out, or the text is none
+pub no_query : (w : List ℕ) (c : QueryCode) (k : ℕ) → ParsingFails w c k → c ≢ NoQueryMemory → ¬ (IsQueryText w)
+no_query w NoQueryMemory k h n = absurd (n refl)
+no_query w c k h n = λ q. h.no_query q.0 q.1
 
 pub is_some_map : {A B : Type 0} (f : A → B) (o : Option A) → is_some (option_map f o) ≡ is_some o
 is_some_map f None = refl

@@ -26,6 +26,7 @@ verb_in w =
     (cond (bytes_eq w (codes "get")) (Some verb.Get)
     (cond (bytes_eq w (codes "keys")) (Some verb.Keys)
     (cond (bytes_eq w (codes "length")) (Some verb.Length)
+    (cond (bytes_eq w (codes "query")) (Some verb.Query)
     (cond (bytes_eq w (codes "edit")) (Some verb.Edit)
     (cond (bytes_eq w (codes "set")) (Some verb.Set)
     (cond (bytes_eq w (codes "insert")) (Some verb.Insert)
@@ -34,13 +35,14 @@ verb_in w =
     (cond (bytes_eq w (codes "patch")) (Some verb.Patch)
     (cond (bytes_eq w (codes "merge")) (Some verb.Merge)
     (cond (bytes_eq w (codes "diff")) (Some verb.Diff)
-    (cond (bytes_eq w (codes "overlay")) (Some verb.Overlay) None)))))))))))))
+    (cond (bytes_eq w (codes "overlay")) (Some verb.Overlay) None))))))))))))))
 
 -- the operands of a command, which precede its files
 abbrev pub operands_of : Verb → List OperandKind
 operands_of verb.Get = kind.Path ∷ []
 operands_of verb.Keys = kind.Path ∷ []
 operands_of verb.Length = kind.Path ∷ []
+operands_of verb.Query = kind.Query ∷ []
 operands_of verb.Edit = kind.Edits ∷ []
 operands_of verb.Set = kind.Path ∷ kind.Value ∷ []
 operands_of verb.Push = kind.Path ∷ kind.Value ∷ []
@@ -85,7 +87,9 @@ setting_in w =
     (cond (bytes_eq w (codes "-i") || bytes_eq w (codes "--in-place")) (Some setting.InPlace)
     (cond (bytes_eq w (codes "--bom")) (Some setting.Bom)
     (cond (bytes_eq w (codes "--lines")) (Some (setting.Input Lines))
-    (cond (bytes_eq w (codes "--stream")) (Some (setting.Input Stream)) (setting_with_value w))))))))))
+    (cond (bytes_eq w (codes "--stream")) (Some (setting.Input Stream))
+    (cond (bytes_eq w (codes "--count")) (Some setting.Count)
+    (cond (bytes_eq w (codes "--exit-status") || bytes_eq w (codes "-e")) (Some setting.MustFind) (setting_with_value w))))))))))))
 
 -- the options that each command has
 abbrev pub takes : Verb → Setting → Bool
@@ -96,11 +100,13 @@ takes verb.Check setting.InPlace = false
 takes verb.Get setting.InPlace = false
 takes verb.Keys setting.InPlace = false
 takes verb.Length setting.InPlace = false
+takes verb.Query setting.InPlace = false
 takes verb.Diff setting.InPlace = false
 takes verb.Check setting.Verbose = false
 takes verb.Get setting.Verbose = false
 takes verb.Keys setting.Verbose = false
 takes verb.Length setting.Verbose = false
+takes verb.Query setting.Verbose = false
 takes verb.Diff setting.Verbose = false
 takes verb.Diff (setting.Input f) = false
 takes verb.Overlay (setting.Input f) = false
@@ -108,11 +114,16 @@ takes verb.Diff setting.MergePatch = true
 takes _ setting.MergePatch = false
 takes verb.Get setting.Raw = true
 takes verb.Keys setting.Raw = true
+takes verb.Query setting.Raw = true
 takes _ setting.Raw = false
 takes verb.Set setting.StringValue = true
 takes verb.Insert setting.StringValue = true
 takes verb.Push setting.StringValue = true
 takes _ setting.StringValue = false
+takes verb.Query setting.Count = true
+takes _ setting.Count = false
+takes verb.Query setting.MustFind = true
+takes _ setting.MustFind = false
 takes _ _ = true
 
 -- the text after the first equals sign
@@ -146,7 +157,7 @@ is_standard_input w = bytes_eq w (codes "-")
 
 -- no option
 abbrev pub no_settings : Settings
-no_settings = record { layout = None; sorted = false; unique = false; depth = None; raw = false; string_value = false; merge_patch = false; verbose = false; in_place = false; bom = false; input = None; color = None }
+no_settings = record { layout = None; sorted = false; unique = false; depth = None; raw = false; string_value = false; merge_patch = false; verbose = false; in_place = false; bom = false; input = None; color = None; count = false; must_find = false }
 
 -- the settings with one more, unless there is one of its kind
 abbrev pub with_setting : Settings → Setting → Option Settings
@@ -162,6 +173,8 @@ with_setting s setting.InPlace = cond s.in_place None (Some (record s { in_place
 with_setting s setting.Bom = cond s.bom None (Some (record s { bom = true }))
 with_setting s (setting.Input f) = cond (is_some s.input) None (Some (record s { input = Some f }))
 with_setting s (setting.Color c) = cond (is_some s.color) None (Some (record s { color = Some c }))
+with_setting s setting.Count = cond s.count None (Some (record s { count = true }))
+with_setting s setting.MustFind = cond s.must_find None (Some (record s { must_find = true }))
 
 -- an operand is read as its kind, and a value as a string where that is asked for
 abbrev pub kind_read : Settings → OperandKind → OperandKind

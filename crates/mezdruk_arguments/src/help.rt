@@ -40,6 +40,7 @@ impl Verb {
             Verb::Get => GET,
             Verb::Keys => KEYS,
             Verb::Length => LENGTH,
+            Verb::Query => QUERY,
             Verb::Edit => EDIT,
             Verb::Set => SET,
             Verb::Insert => INSERT,
@@ -130,6 +131,27 @@ Colors:  -C, --color; -M, --color=never; --color=auto
 Input:   --unique-keys, --depth=N, --lines, --stream, --bom
 
   mezdruk length /tags package.json
+`mezdruk --help` says more of each option.
+";
+
+/// The help of `query`.
+const QUERY: &str = "\
+mezdruk query [OPTION..] QUERY [FILE..]
+
+Prints the values that QUERY, a JSONPath query (RFC 9535), selects, one a line:
+$ is the document, .name or ['name'] a member, [0] or [-1] an element, [1:3] a
+slice, .* or [*] all children, and .. before one of these descends to all that
+is below. Filters, [?..], are not supported yet.
+
+Layouts: -c, --compact; --pretty; --indent=N; --tabs; beside one -S, --sort-keys
+Colors:  -C, --color; -M, --color=never; --color=auto
+Input:   --unique-keys, --depth=N, --lines, --stream, --bom
+Output:  -r, --raw prints a string's content; --count prints how many values
+         are selected, and not these
+Status:  -e, --exit-status makes it 3 if nothing is selected in any document
+
+  mezdruk query '$.dependencies.*' package.json
+  mezdruk query --count '$..version' package-lock.json
 `mezdruk --help` says more of each option.
 ";
 

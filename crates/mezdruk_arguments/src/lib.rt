@@ -27,6 +27,7 @@ mod kept_layout;
 mod line;
 mod operand;
 mod problem;
+mod query_report;
 mod report;
 mod setting;
 mod setting_style;

@@ -1,7 +1,7 @@
 // The operands of a command.
-ghost use Rattle.std.specs.Prelude.{◌≡◌, ◌≢◌, ◌⊎◌, is_some, IfOk, IfErr};
+ghost use Rattle.std.specs.Prelude.{◌≡◌, ◌≢◌, ◌⊎◌, is_some, OnOk, IfOk, IfErr};
 ghost use Rattle.json_io.specs.declared.error.ErrorCode.TheVariants.{NoMemory};
-ghost use Rattle.mezdruk_arguments.specs.Operands.{SpellsOperand, IsOperand, SpellsTree, has_form as formed, path_form, taken_verbatim};
+ghost use Rattle.mezdruk_arguments.specs.Operands.{SpellsOperand, IsOperand, IsQueryIfAsked, SpellsTree, has_form as formed, path_form, taken_verbatim};
 ghost use Rattle.json_patch.specs.Pointer.{pointer_of};
 ghost use Rattle.json_doc.specs.Docs.{doc_root, doc_tree};
 ghost use Rattle.mezdruk_arguments.specs.declared.problem.OperandError.TheVariants as OperandError;
@@ -10,7 +10,9 @@ ghost use Rattle.json_text.specs.Ruled.{usual_rules};
 ghost use Rattle.json_value.specs.Denotes.{tree_of};
 
 use crate::problem::{OperandError, Problem};
-use crate::spelling::{are_edits, first_wrong_edit, first_wrong_step, is_path, parse_pointer};
+use crate::spelling::{
+    are_edits, first_wrong_edit, first_wrong_step, is_path, parse_pointer, parse_query,
+};
 use json_doc::{Doc, read_document_with};
 use json_io::{Error, ErrorCode, Place};
 use json_text::Rules;
@@ -33,6 +35,8 @@ pub enum OperandKind {
     /// Where in the document a value is: a JSON Pointer (RFC 6901), or a JSON array of steps, each
     /// a key or an index.
     Path,
+    /// A JSONPath query (RFC 9535) without filters: the argument itself is its text.
+    Query,
     /// A JSON array of edits.
     Edits,
     /// The key of a member: a JSON string.
@@ -55,6 +59,7 @@ impl OperandKind {
     pub fn name(self) -> &'static str {
         match self {
             OperandKind::Path => "PATH",
+            OperandKind::Query => "QUERY",
             OperandKind::Edits => "EDITS",
             OperandKind::Key => "KEY",
             OperandKind::Value | OperandKind::Text => "VALUE",
@@ -111,7 +116,7 @@ fn is_verbatim(kind: OperandKind, word: &str) -> bool
 {
     match kind {
         OperandKind::Path => word.is_empty() || word.as_bytes().starts_with(b"/"),
-        OperandKind::Text | OperandKind::File => true,
+        OperandKind::Query | OperandKind::Text | OperandKind::File => true,
         _ => false,
     }
 }
@@ -166,11 +171,27 @@ fn has_form(
     ensures only { IfErr result (λ r. r ≡ OperandError.OutOfMemory) }
 {
     match kind {
-        OperandKind::Value | OperandKind::Text | OperandKind::Patch | OperandKind::File => Ok(true),
+        OperandKind::Query
+        | OperandKind::Value
+        | OperandKind::Text
+        | OperandKind::Patch
+        | OperandKind::File => Ok(true),
         OperandKind::Key => Ok(value.view().text().is_some()),
         OperandKind::Step => Ok(is_step(value.view())),
         OperandKind::Path => is_path_form(alloc, word, value),
         OperandKind::Edits => are_edits(alloc, value),
+    }
+}
+
+// Fails if the operand is a query and the argument is none.
+fn check_query(alloc: Global, kind: OperandKind, word: &str) -> Result<(), OperandError>
+    ensures ok { OnOk result (IsQueryIfAsked kind word.now) }
+    ensures err { IfErr result (λ r. (r ≡ OperandError.OutOfMemory)
+        ⊎ (¬ (IsQueryIfAsked kind word.now))) }
+{
+    match kind {
+        OperandKind::Query => parse_query(alloc, word),
+        _ => Ok(()),
     }
 }
 
@@ -189,11 +210,12 @@ fn form_problem(kind: OperandKind, value: &Value) -> Problem {
 }
 
 /// Reads an operand of this kind from the argument `word`, and returns its value. If the kind is
-/// `Text` or `File`, or if it is `Path` and `word` is empty or begins with `/`, the value is the
-/// string `word` itself. Else `word` is read as a JSON text by the usual rules (at most 254 levels,
+/// `Query`, `Text` or `File`, or if it is `Path` and `word` is empty or begins with `/`, the value
+/// is the string `word` itself. Else `word` is read as a JSON text by the usual rules (at most 254 levels,
 /// keys may repeat).
 ///
-/// Fails with [`Problem::NoText`] if it is not a JSON text, with [`Problem::NoEdit`] or
+/// Fails with [`Problem::NoQuery`] if the kind is `Query` and `word` is no query of JSONPath (RFC
+/// 9535) without filters, with [`Problem::NoText`] if it is not a JSON text, with [`Problem::NoEdit`] or
 /// [`Problem::WrongForm`] if the value does not have the form of the operand or the path is no JSON
 /// Pointer, and with [`OperandError::OutOfMemory`] if memory runs out.
 ///
@@ -210,6 +232,10 @@ pub fn read_operand(alloc: Global, kind: OperandKind, word: &str) -> Result<Valu
     ensures err { IfErr result (λ r. (r ≡ OperandError.OutOfMemory)
         ⊎ (¬ (IsOperand kind word.now))) }
 {
+    match check_query(alloc, kind, word) {
+        Ok(()) => {}
+        Err(refusal) => return Err(refusal),
+    }
     let value = read_spelled(alloc, kind, word)?;
     if has_form(alloc, kind, word, &value)? {
         return Ok(value);

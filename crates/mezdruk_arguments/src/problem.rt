@@ -1,6 +1,7 @@
 // What is wrong with arguments.
 use crate::operand::OperandKind;
 use json_io::Error;
+use json_query::QueryError;
 
 /// What is wrong with one argument.
 ///
@@ -43,6 +44,11 @@ pub enum Problem {
         /// The index of the first element that is no step, counted from 0, if the operand is a path
         /// and the value an array.
         step: Option<usize>,
+    },
+    /// It is an operand that is no query of JSONPath (RFC 9535), or has a filter.
+    NoQuery {
+        /// What is wrong with it, and where.
+        error: QueryError,
     },
     /// It is an operand of edits, and an array of which an element is no edit.
     NoEdit {

@@ -1,6 +1,7 @@
 // What is reported of arguments that are refused.
 use crate::operand::OperandKind;
 use crate::problem::{ArgumentsError, MissingArgument, Problem};
+use crate::query_report::query_problem;
 use crate::setting::Setting;
 use crate::verb::Verb;
 use json_io::{Error, Words, fault_text};
@@ -8,13 +9,13 @@ use std::alloc::{AllocError, Global};
 use strsim::osa_distance;
 
 /// The commands, and the programs that commands run.
-const COMMANDS: [&str; 18] = [
-    "fmt", "check", "get", "keys", "length", "edit", "set", "insert", "push", "remove", "patch",
-    "merge", "diff", "overlay", "reshape", "lines", "rpc", "history",
+const COMMANDS: [&str; 19] = [
+    "fmt", "check", "get", "keys", "length", "query", "edit", "set", "insert", "push", "remove",
+    "patch", "merge", "diff", "overlay", "reshape", "lines", "rpc", "history",
 ];
 
 /// The options.
-const OPTIONS: [&str; 19] = [
+const OPTIONS: [&str; 21] = [
     "--compact",
     "--pretty",
     "--indent=",
@@ -27,6 +28,8 @@ const OPTIONS: [&str; 19] = [
     "--in-place",
     "--verbose",
     "--path=",
+    "--count",
+    "--exit-status",
     "--lines",
     "--stream",
     "--bom",
@@ -59,7 +62,8 @@ fn meant(word: &str) -> Option<&'static str> {
         "format" | "pretty" | "print" => Some("fmt"),
         "add" | "append" => Some("push"),
         "update" | "replace" => Some("set"),
-        "find" | "query" | "show" => Some("get"),
+        "find" | "show" => Some("get"),
+        "select" | "jsonpath" | "jq" => Some("query"),
         "count" | "len" | "size" => Some("length"),
         "ls" | "names" | "members" => Some("keys"),
         "compare" | "cmp" => Some("diff"),
@@ -210,6 +214,7 @@ fn no_text(
 fn form_wanted(kind: OperandKind) -> &'static str {
     match kind {
         OperandKind::Path => "is no JSON Pointer and no array of steps",
+        OperandKind::Query => "is no JSONPath query",
         OperandKind::Edits => "is no array of edits",
         OperandKind::Key => "is no string",
         OperandKind::Step => "is no string and no index",
@@ -242,6 +247,7 @@ fn problem_text(alloc: Global, word: &str, problem: &Problem) -> Result<String, 
         Problem::NoWidth => format!(in alloc; "`{word}`: --indent takes a number from 0 to 8"),
         Problem::NoText { kind, error } => no_text(alloc, kind, word, &error),
         Problem::WrongForm { kind, step } => wrong_form(alloc, kind, step),
+        Problem::NoQuery { error } => query_problem(alloc, word, error),
         Problem::NoEdit { index, reason } => {
             format!(in alloc; "element {index} of EDITS is no edit: {reason}")
         }

@@ -92,6 +92,10 @@ pub enum Setting {
     Input(RequestedInput),
     /// Colors of printed values (`--color`).
     Color(ColorChoice),
+    /// The number of values that a query selects, in place of these (`--count`).
+    Count,
+    /// Another status if a query selects nothing (`--exit-status`).
+    MustFind,
 }
 
 /// What the options of a command ask for. Each can be asked for once.
@@ -136,6 +140,10 @@ pub struct Settings {
     pub input: Option<RequestedInput>,
     /// When printed values have colors, if an option asks for that.
     pub color: Option<ColorChoice>,
+    /// Whether the number of values that a query selects is printed in place of these.
+    pub count: bool,
+    /// Whether the status is another one if a query selects nothing.
+    pub must_find: bool,
 }
 
 /// Returns the number of spaces that one digit asks for, at most 8.
@@ -212,6 +220,8 @@ impl Setting {
             "--bom" => Some(Setting::Bom),
             "--lines" => Some(Setting::Input(RequestedInput::Lines)),
             "--stream" => Some(Setting::Input(RequestedInput::Stream)),
+            "--count" => Some(Setting::Count),
+            "--exit-status" | "-e" => Some(Setting::MustFind),
             _ => setting_with_value(word),
         }
     }
@@ -235,6 +245,8 @@ impl Settings {
             bom: false,
             input: None,
             color: None,
+            count: false,
+            must_find: false,
         }
     }
 
@@ -260,6 +272,46 @@ impl Settings {
         }
         Some(Settings {
             color: Some(choice),
+            ..self
+        })
+    }
+
+    // Returns the settings with a form of the input, or `None` if an earlier option asks for one.
+    fn with_input(self, form: RequestedInput) -> Option<Settings>
+        ensures { result ≡ with_setting self (Setting.Input form) }
+    {
+        if self.input.is_some() {
+            return None;
+        }
+        Some(Settings {
+            input: Some(form),
+            ..self
+        })
+    }
+
+    // Returns the settings with the number of values, or `None` if an earlier option asks for it.
+    fn with_count(self) -> Option<Settings>
+        ensures { result ≡ with_setting self Setting.Count }
+    {
+        if self.count {
+            return None;
+        }
+        Some(Settings {
+            count: true,
+            ..self
+        })
+    }
+
+    // Returns the settings with another status if nothing is selected, or `None` if an earlier
+    // option asks for it.
+    fn with_must_find(self) -> Option<Settings>
+        ensures { result ≡ with_setting self Setting.MustFind }
+    {
+        if self.must_find {
+            return None;
+        }
+        Some(Settings {
+            must_find: true,
             ..self
         })
     }
@@ -300,11 +352,10 @@ impl Settings {
                 ..self
             }),
             Setting::Bom if !self.bom => Some(Settings { bom: true, ..self }),
-            Setting::Input(form) if self.input.is_none() => Some(Settings {
-                input: Some(form),
-                ..self
-            }),
+            Setting::Input(form) => self.with_input(form),
             Setting::Color(choice) => self.with_color(choice),
+            Setting::Count => self.with_count(),
+            Setting::MustFind => self.with_must_find(),
             _ => None,
         }
     }

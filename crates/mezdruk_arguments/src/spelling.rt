@@ -1,14 +1,15 @@
 // What the value of an operand spells.
-ghost use Rattle.std.specs.Prelude.{◌≡◌, is_some, option_map, IfOk, IfErr};
-ghost use Rattle.mezdruk_arguments.specs.Operands.{path_formed, edits_formed};
+ghost use Rattle.std.specs.Prelude.{◌≡◌, ◌⊎◌, is_some, option_map, OnOk, IfOk, IfErr};
+ghost use Rattle.mezdruk_arguments.specs.Operands.{path_formed, edits_formed, IsQueryText};
 ghost use Rattle.mezdruk_arguments.specs.declared.problem.OperandError.TheVariants as OperandError;
 ghost use Rattle.json_patch.specs.Lookups.{pointer_tokens};
 ghost use Rattle.json_patch.specs.Pointer.{pointer_of};
 ghost use Rattle.json_value.specs.Denotes.{tree_of};
 
-use crate::problem::OperandError;
+use crate::problem::{OperandError, Problem};
 use json_data::from_value;
 use json_patch::{PatchCode, Pointer};
+use json_query::{Query, QueryCode};
 use json_tokens::is_refusal;
 use json_value::{Edit, Path, Value, View};
 use mezdruk_help::{edit_fault, is_step};
@@ -26,6 +27,23 @@ pub(crate) fn parse_pointer(alloc: Global, text: &str) -> Result<Option<Pointer>
         Err(error) => match error.code {
             PatchCode::NoMemory => Err(OperandError::OutOfMemory),
             _ => Ok(None),
+        },
+    }
+}
+
+/// Checks that a text is a query of JSONPath (RFC 9535) without filters. Fails with
+/// [`Problem::NoQuery`] if it is none, and if memory runs out.
+#[tactic(auto, using(crate::proofs::Spelled::no_query))]
+pub(crate) fn parse_query(alloc: Global, text: &str) -> Result<(), OperandError>
+    ensures ok { OnOk result (IsQueryText text.now) }
+    ensures err { IfErr result (λ r. (r ≡ OperandError.OutOfMemory)
+        ⊎ (¬ (IsQueryText text.now))) }
+{
+    match Query::parse(alloc, text) {
+        Ok(_) => Ok(()),
+        Err(error) => match error.code {
+            QueryCode::NoMemory => Err(OperandError::OutOfMemory),
+            _ => Err(OperandError::Invalid(Problem::NoQuery { error })),
         },
     }
 }

@@ -26,6 +26,8 @@ pub enum Verb {
     Keys,
     /// Prints the number of elements or members where a path leads.
     Length,
+    /// Prints the values that a JSONPath query (RFC 9535) selects.
+    Query,
     /// Applies a list of edits.
     Edit,
     /// Sets the value where a path leads.
@@ -68,6 +70,7 @@ impl Verb {
             Verb::Get => "get",
             Verb::Keys => "keys",
             Verb::Length => "length",
+            Verb::Query => "query",
             Verb::Edit => "edit",
             Verb::Set => "set",
             Verb::Insert => "insert",
@@ -90,6 +93,7 @@ impl Verb {
             "get" => Some(Verb::Get),
             "keys" => Some(Verb::Keys),
             "length" => Some(Verb::Length),
+            "query" => Some(Verb::Query),
             "edit" => Some(Verb::Edit),
             "set" => Some(Verb::Set),
             "insert" => Some(Verb::Insert),
@@ -109,6 +113,7 @@ impl Verb {
     {
         match self {
             Verb::Get | Verb::Keys | Verb::Length => &[OperandKind::Path],
+            Verb::Query => &[OperandKind::Query],
             Verb::Edit => &[OperandKind::Edits],
             Verb::Set | Verb::Push => &[OperandKind::Path, OperandKind::Value],
             Verb::Insert => &[OperandKind::Path, OperandKind::Key, OperandKind::Value],
@@ -150,11 +155,12 @@ impl Verb {
             Setting::Layout(_) | Setting::SortKeys | Setting::Color(_) => self != Verb::Check,
             Setting::InPlace | Setting::Verbose => !matches!(
                 self,
-                Verb::Check | Verb::Get | Verb::Keys | Verb::Length | Verb::Diff
+                Verb::Check | Verb::Get | Verb::Keys | Verb::Length | Verb::Query | Verb::Diff
             ),
             Setting::MergePatch => self == Verb::Diff,
             Setting::Input(_) => !matches!(self, Verb::Diff | Verb::Overlay),
-            Setting::Raw => matches!(self, Verb::Get | Verb::Keys),
+            Setting::Count | Setting::MustFind => self == Verb::Query,
+            Setting::Raw => matches!(self, Verb::Get | Verb::Keys | Verb::Query),
             Setting::StringValue => matches!(self, Verb::Set | Verb::Insert | Verb::Push),
             _ => true,
         }

@@ -6,6 +6,7 @@ use crate::files::{ReadFault, read_bytes, report_unread};
 use crate::inlet::Reading;
 use crate::missing::Target;
 use crate::progress::can_be_shown;
+use crate::query::query;
 use crate::run::{Work, run_files};
 use json_command::{Console, Status, report_text};
 use json_data::from_value;
@@ -38,8 +39,8 @@ pub struct Task<'a> {
 }
 
 impl<'a> Task<'a> {
-    // Returns the task that prints each element of what is found on a line.
-    fn of_each(self) -> Task<'a> {
+    /// Returns the task that prints each element of what is found on a line.
+    pub fn of_each(self) -> Task<'a> {
         Task { each: true, ..self }
     }
 
@@ -299,6 +300,7 @@ pub fn carry_out(
     match (verb, operands.as_slice()) {
         (Verb::Fmt | Verb::Check, _) => { task.run(rt, console, Unchanged, Target::Document) }
         (Verb::Get | Verb::Keys | Verb::Length, paths) => get(rt, console, task, paths),
+        (Verb::Query, [operand, ..]) => query(rt, console, task, operand),
         (Verb::Patch | Verb::Merge, [value, ..]) => patch(rt, console, task, value),
         (Verb::Overlay, _) => overlay(rt, console, task),
         (Verb::Diff, [old, ..]) => {

@@ -16,6 +16,7 @@ mod inlet;
 mod missing;
 mod outlet;
 mod progress;
+mod query;
 mod rpc;
 mod rpc_options;
 mod run;

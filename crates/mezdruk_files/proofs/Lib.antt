@@ -17,3 +17,4 @@ pub mod Painted
 pub mod ValuePaths
 pub mod EachLine
 pub mod EditedTexts
+pub mod SelectedValues

@@ -21,3 +21,4 @@ pub mod FoundLayouts
 pub mod EditedTexts
 pub mod Differences
 pub mod Overlays
+pub mod Queries

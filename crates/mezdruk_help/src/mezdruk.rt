@@ -16,6 +16,8 @@ Commands:
   get PATH                 print the value where the path leads
   keys PATH, length PATH   print the keys of the object there, one a line, or the
                            number of elements or members
+  query QUERY              print the values that a JSONPath query (RFC 9535)
+                           without filters selects, one a line
   edit EDITS               apply an array of edits in turn
   set PATH VALUE           put a value where the path leads
   insert PATH KEY VALUE    put a member into the object there
@@ -47,9 +49,12 @@ Options, before COMMAND or after it, in any order, each at most once but for
   -S, --sort-keys          sort the members of each object by their keys
   --unique-keys            refuse an object with two members of one key
   --depth=N                refuse more than N levels, 0 to 1024; 254 without it
-  -r, --raw                of get and keys: print a string's content
+  -r, --raw                of get, keys and query: print a string's content
   --path=PATH              of get, any number of times: one more value, on a
                            line of its own
+  --count                  of query: print how many values are selected
+  -e, --exit-status        of query: status 3 if nothing is selected in any
+                           document
   --merge                  of diff: print a merge patch
   --string                 of set, insert and push, before VALUE: take it as a
                            string
@@ -63,8 +68,8 @@ Options, before COMMAND or after it, in any order, each at most once but for
                            always; as without the option, on a terminal where
                            NO_COLOR is empty and TERM is not dumb; never
   -i, --in-place           write each FILE in place, not of check, get, keys,
-                           length and diff; an edit keeps the layout of the
-                           file if no option asks for one
+                           length, query and diff; an edit keeps the layout of
+                           the file if no option asks for one
   -v, --verbose            beside -i: say how many of the files were changed
   --document=FILE, --document FILE
                            of rpc: begin with the document of FILE, not null
@@ -81,7 +86,7 @@ Status: the greatest of those of the documents
   0  done
   1  a document is not valid; of diff: the two differ
   2  the arguments are not valid; of diff: also if a document is not valid
-  3  an edit or a patch does not apply
+  3  an edit or a patch does not apply; of query: see --exit-status
   4  reading failed
   5  writing failed, or nobody reads the output
   6  memory ran out

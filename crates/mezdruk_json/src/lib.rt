@@ -65,9 +65,9 @@
 //! assert_eq!(rt; format!(in alloc; "{path}")?.as_str(), "/a/1");
 //! ```
 //!
-//! # Patches, lines, histories, services
+//! # Patches, queries, lines, histories, services
 //!
-//! They are the modules [`patch`], [`lines`], [`history`] and [`rpc`].
+//! They are the modules [`patch`], [`query`], [`lines`], [`history`] and [`rpc`].
 //!
 //! ```
 //! use mezdruk_json::{Value, from_str};
@@ -82,34 +82,104 @@
 pub mod patch;
 pub mod tokens;
 
-pub use json_access::{JsonContainerTrait, JsonValueMutTrait, JsonValueTrait};
-pub use json_containers::{ArrayCalls, Entry, IntoIter, ObjectCalls, OccupiedEntry, VacantEntry};
-pub use json_data::{
-    Deserialize, DeserializeFrom, FromKey, IgnoredAny, InputStr, Members, TextTokens, Tokens,
-    ValueTokens, error_without_place, from_reader, from_slice, from_slice_unchecked,
-    from_slice_with, from_str, from_value, read_members, try_read_members,
-};
+pub use json_access::JsonContainerTrait;
+pub use json_access::JsonValueMutTrait;
+pub use json_access::JsonValueTrait;
+pub use json_containers::ArrayCalls;
+pub use json_containers::Entry;
+pub use json_containers::IntoIter;
+pub use json_containers::ObjectCalls;
+pub use json_containers::OccupiedEntry;
+pub use json_containers::VacantEntry;
+pub use json_data::Deserialize;
+pub use json_data::DeserializeFrom;
+pub use json_data::FromKey;
+pub use json_data::IgnoredAny;
+pub use json_data::InputStr;
+pub use json_data::Members;
+pub use json_data::TextTokens;
+pub use json_data::Tokens;
+pub use json_data::ValueTokens;
+pub use json_data::error_without_place;
+pub use json_data::from_reader;
+pub use json_data::from_slice;
+pub use json_data::from_slice_unchecked;
+pub use json_data::from_slice_with;
+pub use json_data::from_str;
+pub use json_data::from_value;
+pub use json_data::read_members;
+pub use json_data::try_read_members;
 pub use json_derive as derive;
-pub use json_doc::{Doc, DocView, DocumentRoom, JsonType, read_document, read_document_with};
+pub use json_doc::Doc;
+pub use json_doc::DocView;
+pub use json_doc::DocumentRoom;
+pub use json_doc::JsonType;
+pub use json_doc::read_document;
+pub use json_doc::read_document_with;
 pub use json_explain as explain;
 pub use json_history as history;
 pub use json_lines as lines;
-pub use json_number::{Integer, JsonNumberTrait, Number, RawNumber};
-pub use json_print::{
-    BufferedWriter, CompactFormatter, Events, Formatter, Layout, ManyLines, OneLine,
-    PrettyFormatter, Serializer, Style,
-};
+pub use json_number::Integer;
+pub use json_number::JsonNumberTrait;
+pub use json_number::Number;
+pub use json_number::RawNumber;
+pub use json_print::BufferedWriter;
+pub use json_print::CompactFormatter;
+pub use json_print::Events;
+pub use json_print::Formatter;
+pub use json_print::Layout;
+pub use json_print::ManyLines;
+pub use json_print::OneLine;
+pub use json_print::PrettyFormatter;
+pub use json_print::Serializer;
+pub use json_print::Style;
+pub use json_query as query;
 pub use json_rpc as rpc;
-pub use json_stream::{Deserializer, StreamDeserializer};
-pub use json_text::{
-    Category, Error, ErrorCode, Failed, Place, Result, Rules, Sink, SinkError, SliceSource, Source,
-    StdSink, StdSource, VecSink, Words, check_utf8, read_all, repair,
-};
-pub use json_value::{
-    Array, ArrayIter, ArrayView, Edit, Index, Iter, Literal, Object, ObjectView, Pair, Path,
-    PointerNode, Text, Value, ValueRef, View,
-};
-pub use json_write::{
-    Field, Fields, KeyRoom, Serialize, serialize_fields, to_string, to_string_pretty, to_value,
-    to_vec, to_vec_pretty, to_writer, to_writer_pretty,
-};
+pub use json_stream::Deserializer;
+pub use json_stream::StreamDeserializer;
+pub use json_text::Category;
+pub use json_text::Error;
+pub use json_text::ErrorCode;
+pub use json_text::Failed;
+pub use json_text::Place;
+pub use json_text::Result;
+pub use json_text::Rules;
+pub use json_text::Sink;
+pub use json_text::SinkError;
+pub use json_text::SliceSource;
+pub use json_text::Source;
+pub use json_text::StdSink;
+pub use json_text::StdSource;
+pub use json_text::VecSink;
+pub use json_text::Words;
+pub use json_text::check_utf8;
+pub use json_text::read_all;
+pub use json_text::repair;
+pub use json_value::Array;
+pub use json_value::ArrayIter;
+pub use json_value::ArrayView;
+pub use json_value::Edit;
+pub use json_value::Index;
+pub use json_value::Iter;
+pub use json_value::Literal;
+pub use json_value::Object;
+pub use json_value::ObjectView;
+pub use json_value::Pair;
+pub use json_value::Path;
+pub use json_value::PointerNode;
+pub use json_value::Text;
+pub use json_value::Value;
+pub use json_value::ValueRef;
+pub use json_value::View;
+pub use json_write::Field;
+pub use json_write::Fields;
+pub use json_write::KeyRoom;
+pub use json_write::Serialize;
+pub use json_write::serialize_fields;
+pub use json_write::to_string;
+pub use json_write::to_string_pretty;
+pub use json_write::to_value;
+pub use json_write::to_vec;
+pub use json_write::to_vec_pretty;
+pub use json_write::to_writer;
+pub use json_write::to_writer_pretty;

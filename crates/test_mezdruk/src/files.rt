@@ -10,6 +10,7 @@ mod lines;
 mod marks;
 mod paths;
 mod pointers;
+mod queries;
 mod reports;
 mod runs;
 mod streams;

@@ -1,6 +1,6 @@
 # Completion of `mezdruk` for bash, and of the script: `source tools/completions/bash/mezdruk.bash` completes `./mezdruk`.
 # The arguments of a program are completed by its own file beside this one.
-_mezdruk_commands="fmt check get keys length edit set insert push remove patch merge diff overlay"
+_mezdruk_commands="fmt check get keys length query edit set insert push remove patch merge diff overlay"
 _mezdruk_programs="reshape lines rpc history"
 _mezdruk_folder=$(dirname "${BASH_SOURCE[0]}")
 for _mezdruk_name in $_mezdruk_programs json_patch; do
@@ -39,12 +39,14 @@ _mezdruk_command() {
         [[ $given =~ \ --(lines|stream)\  ]] || words+=" --lines"
         [[ $given =~ \ --(lines|stream|unique-keys|depth)[\ =] ]] || words+=" --stream"
     fi
-    [[ ! $command =~ ^(get|keys)$ || $given =~ \ (-r|--raw)\  ]] || words+=" --raw"
+    [[ ! $command =~ ^(get|keys|query)$ || $given =~ \ (-r|--raw)\  ]] || words+=" --raw"
     [[ $command != get ]] || words+=" --path="
+    [[ $command != query || $given =~ \ --count\  ]] || words+=" --count"
+    [[ $command != query || $given =~ \ (-e|--exit-status)\  ]] || words+=" --exit-status"
     [[ ! $command =~ ^(set|insert|push)$ || $given =~ \ --string\  ]] || words+=" --string"
-    [[ $command =~ ^(check|get|keys|length|diff)$ || $given =~ \ (-i|--in-place)\  ]] ||
+    [[ $command =~ ^(check|get|keys|length|query|diff)$ || $given =~ \ (-i|--in-place)\  ]] ||
         words+=" --in-place"
-    [[ $command =~ ^(check|get|keys|length|diff)$ || $given =~ \ (-v|--verbose)\  ]] ||
+    [[ $command =~ ^(check|get|keys|length|query|diff)$ || $given =~ \ (-v|--verbose)\  ]] ||
         words+=" --verbose"
     case $command in
         edit) [[ $given =~ \ --edits[\ =] ]] || words+=" --edits=" ;;

@@ -44,7 +44,7 @@ function __mezdruk_takes -d 'Whether the command is one of the first list, and n
     return 0
 end
 set -l first 'test (count (commandline -opc)) -eq 1'
-set -l reads fmt,get,keys,length,edit,set,insert,push,remove,patch,merge
+set -l reads fmt,get,keys,length,query,edit,set,insert,push,remove,patch,merge
 set -l prints $reads,diff,overlay
 set -l writes fmt,edit,set,insert,push,remove,patch,merge,overlay
 set -l texts set,insert,push
@@ -54,6 +54,7 @@ complete -c mezdruk -n __mezdruk_wants_command -f -a 'check' -d 'print nothing b
 complete -c mezdruk -n __mezdruk_wants_command -f -a 'get' -d 'print the value at a path'
 complete -c mezdruk -n __mezdruk_wants_command -f -a 'keys' -d 'print the keys of an object'
 complete -c mezdruk -n __mezdruk_wants_command -f -a 'length' -d 'print how many elements or members there are'
+complete -c mezdruk -n __mezdruk_wants_command -f -a 'query' -d 'print what a JSONPath query selects'
 complete -c mezdruk -n __mezdruk_wants_command -f -a 'edit' -d 'apply edits'
 complete -c mezdruk -n __mezdruk_wants_command -f -a 'set insert push remove' -d 'apply one edit'
 complete -c mezdruk -n __mezdruk_wants_command -f -a 'patch' -d 'apply a JSON Patch'
@@ -81,11 +82,13 @@ complete -c mezdruk -n "__mezdruk_takes check,$prints --depth --stream" -a '--de
 complete -c mezdruk -n "__mezdruk_takes check,$prints --bom" -a '--bom' -d 'skip a byte order mark at the beginning'
 complete -c mezdruk -n "__mezdruk_takes check,$reads --lines --stream" -a '--lines' -d 'each line is a document'
 complete -c mezdruk -n "__mezdruk_takes check,$reads --lines --stream --unique-keys --depth" -a '--stream' -d 'documents follow one another'
-complete -c mezdruk -n '__mezdruk_takes get,keys -r --raw' -a '--raw' -d 'print the content of a string'
+complete -c mezdruk -n '__mezdruk_takes get,keys,query -r --raw' -a '--raw' -d 'print the content of a string'
 complete -c mezdruk -n '__mezdruk_takes get' -a '--path=' -d 'print one more value'
+complete -c mezdruk -n '__mezdruk_takes query --count' -a '--count' -d 'print how many values are selected'
+complete -c mezdruk -n '__mezdruk_takes query -e --exit-status' -a '--exit-status' -d 'status 3 if nothing is selected'
 complete -c mezdruk -n "__mezdruk_takes $texts --string" -a '--string' -d 'take the value as a string'
 complete -c mezdruk -n "test (count (commandline -opc)) -eq 2; and __mezdruk_takes check,$prints" -a '--help' -d 'print the help of the command'
-complete -c mezdruk -n 'test (count (commandline -opc)) -eq 2; and test (commandline -opc)[2] = help' -f -a 'fmt check get keys length edit set insert push remove patch merge diff overlay reshape lines rpc history'
+complete -c mezdruk -n 'test (count (commandline -opc)) -eq 2; and test (commandline -opc)[2] = help' -f -a 'fmt check get keys length query edit set insert push remove patch merge diff overlay reshape lines rpc history'
 complete -c mezdruk -n "__mezdruk_takes $writes -i --in-place" -a '--in-place' -d 'write each file in place'
 complete -c mezdruk -n "__mezdruk_takes $writes -v --verbose" -a '--verbose' -d 'say how many files were changed'
 complete -c mezdruk -n '__mezdruk_takes edit --edits' -a '--edits=' -d 'take the edits from a file'

@@ -30,7 +30,7 @@ pub const ROWS: &str = r#"# valid
 |0|||get|--path=[]|
 |0|||keys||
 |0|||keys|["a"]|--raw|a.json|--lines|
-|0|||length|/a|a.json|
+|0|||query|--exit-status|--|$[::-1]|
 |0|||fmt|--indent|8|a.json|
 |0|||get|--indent|0|/a|
 |0|||insert|["a"]|"b"|{"c":1.50}|a.json|
@@ -72,7 +72,7 @@ pub const ROWS: &str = r#"# valid
 |2||mezdruk: there is no command `update`; did you mean `set`?|update|
 |2||mezdruk: there is no command `replace`; did you mean `set`?|replace|
 |2||mezdruk: there is no command `find`; did you mean `get`?|find|
-|2||mezdruk: there is no command `query`; did you mean `get`?|query|
+|2||mezdruk: there is no command `jsonpath`; did you mean `query`?|jsonpath|
 |2||mezdruk: there is no command `show`; did you mean `get`?|show|
 |2||mezdruk: there is no command `count`; did you mean `length`?|count|
 |2||mezdruk: there is no command `overlya`; did you mean `overlay`?|overlya|
@@ -99,6 +99,10 @@ pub const ROWS: &str = r#"# valid
 |2||mezdruk get: the command has no option `--verbose`|get|--verbose|
 |2||mezdruk length: the command has no option `--raw`|length|--raw|
 |2||mezdruk keys: the command has no option `--path=/a`|keys|--path=/a|
+|2||mezdruk get: the command has no option `--count`|get|/a|--count|
+|2||mezdruk fmt: the command has no option `-e`|fmt|-e|
+|2||mezdruk query: the command has no option `-i`|query|$|-i|
+|2||mezdruk query: there is no option `--counts`; did you mean `--count`?|query|--counts|
 |2||mezdruk diff: the command has no option `-i`|diff|a.json|-i|
 |2||mezdruk diff: the command has no option `--lines`|diff|--lines|
 |2||mezdruk overlay: the command has no option `--stream`|overlay|--stream|a.json|
@@ -132,6 +136,8 @@ pub const ROWS: &str = r#"# valid
 |2||mezdruk get: `--bom`: the option occurs twice|get|--bom|/a|--bom|
 |2||mezdruk fmt: `-M`: at most one of --color, -C and -M is taken, once|fmt|--color|-M|
 |2||mezdruk set: `--string`: the option has to come before VALUE|set|/a|"b"|--string|
+|2||mezdruk query: `--count`: the option occurs twice|query|--count|$|--count|
+|2||mezdruk query: `-e`: the option occurs twice|query|--exit-status|-e|
 |2||mezdruk fmt: `--sort-keys`: the option occurs twice|fmt|--sort-keys|a|--sort-keys|
 |2||mezdruk fmt: `-i`: the option occurs twice|fmt|--in-place|-i|
 |2||mezdruk fmt: `--stream`: at most one of --lines and --stream is taken, once|fmt|--lines|--stream|
@@ -153,6 +159,7 @@ pub const ROWS: &str = r#"# valid
 |2||mezdruk edit: EDITS is missing|edit|
 |2||mezdruk get: PATH is missing|get|--raw|
 |2||mezdruk keys: PATH is missing|keys|
+|2||mezdruk query: QUERY is missing|query|--raw|
 |2||mezdruk set: VALUE is missing|set|[]|
 |2||mezdruk insert: KEY is missing|insert|[]|
 |2||mezdruk remove: STEP is missing|remove|[]|
@@ -170,6 +177,19 @@ pub const ROWS: &str = r#"# valid
 |2||mezdruk remove: STEP is no JSON text: InvalidJsonValue at offset 0, line 1 column 1%0Ahint: did you mean '"k"'?|remove|/a|k|
 |2||mezdruk set: VALUE is no JSON text: EofWhileParsing at offset 0, line 1 column 1|set|["a"]||
 |2||mezdruk patch: PATCH is no JSON text: TrailingCharacters at offset 3, line 1 column 4|patch|[] []|
+# queries that are none
+|2||mezdruk query: QUERY is no JSONPath query: `$` is expected (ExpectedRoot) at offset 0%0A%0A^|query||
+|2||mezdruk query: QUERY is no JSONPath query: `$` is expected (ExpectedRoot) at offset 0%0A.a%0A^%0Ahint: did you mean `$.a`?|query|.a|
+|2||mezdruk query: QUERY is no JSONPath query: `$` is expected (ExpectedRoot) at offset 0%0A/a%0A^%0Ahint: `mezdruk get` takes a JSON Pointer|query|/a|
+|2||mezdruk query: QUERY is no JSONPath query: `.` or `[` is expected (ExpectedSegment) at offset 1%0A$a%0A ^|query|$a|
+|2||mezdruk query: QUERY is no JSONPath query: a name or `*` is expected (ExpectedName) at offset 2%0A$.%0A  ^|query|$.|
+|2||mezdruk query: QUERY is no JSONPath query: a string, an index, a slice or `*` is expected (ExpectedSelector) at offset 2%0A$[]%0A  ^|query|$[]|
+|2||mezdruk query: QUERY is no JSONPath query: `,` or `]` is expected (ExpectedCommaOrBracket) at offset 3%0A$[01]%0A   ^|query|$[01]|
+|2||mezdruk query: QUERY is no JSONPath query: a digit from 1 to 9 is expected (ExpectedDigit) at offset 3%0A$[-0]%0A   ^|query|$[-0]|
+|2||mezdruk query: QUERY is no JSONPath query: the string is not closed (UnclosedString) at offset 5%0A$['ä%0A    ^|query|$['ä|
+|2||mezdruk query: QUERY is no JSONPath query: the escape is none of a string (InvalidEscape) at offset 4%0A$['\x']%0A    ^|query|$['\x']|
+|2||mezdruk query: QUERY is no JSONPath query: filters are not supported yet (Filter) at offset 2%0A$[?@.a]%0A  ^|query|$[?@.a]|
+|2||mezdruk query: there is no option `--bogus`|query|--bogus|.a|
 # operands of another form
 |2||mezdruk edit: EDITS is no array of edits|edit|{}|
 |2||mezdruk edit: element 1 of EDITS is no edit: it is not ["set", path, value]|edit|[["push",[],1],["set",[]]]|
