@@ -1,18 +1,14 @@
 -- What a reader of a list promises where an element was refused.
-use Rattle.std.proofs.Common.{◌≡◌, List, [], ◌∷◌, ◌++◌, Bool, true, false, ◌≢◌, refl, sym, ◌∙◌, ap, subst, inl, inr, ◌⊎◌}
+use Rattle.std.proofs.Common.{◌≡◌, List, Bool, true, false, ◌≢◌, refl, sym, ◌∙◌, ap, subst, inl, inr, ◌⊎◌}
 use Rattle.json_io.specs.declared.error.Error.{Error}
 use Rattle.json_io.specs.declared.error.ErrorCode.{ErrorCode}
 use Rattle.json_io.specs.declared.error.ErrorCode.TheVariants.{TypeUnmatched, NumberOutOfRange}
-use Rattle.json_tokens.specs.declared.token.TokenKind.{TokenKind}
-use Rattle.json_tokens.specs.declared.token.TokenKind.TheVariants.{EndArray}
-use Rattle.json_grammar.specs.Tree.{Tree, Trees, Token as Tok, null, boolean, num, text, list, pairs, no_trees, tree_and, trees_tokens, end}
-use Rattle.json_grammar.specs.declared.Kind.TheVariants.{Array as array}
-use Rattle.json_model.specs.Datum.{Datum}
-use Rattle.json_data.specs.Reading.{Reading, gives, refuses, two, as_list, read_option}
-use Rattle.json_tokens.specs.TokensStates.{TokensState, TakesTokens, Peeks, TakesTree, Leaves, FirstIs, TokensFail}
+use Rattle.json_grammar.specs.Tree.{Tree, Trees, Token as Tok, null, boolean, num, text, list, pairs, no_trees, tree_and}
+use Rattle.json_data.specs.Reading.{Reading, refuses, read_option}
+use Rattle.json_tokens.specs.TokensStates.{TokensState, TakesTree, Leaves, TokensFail}
 use Rattle.json_data.specs.Reader.{ReadsTree, StopsReading, Misses, GivesUp}
 use Rattle.json_tokens.specs.Refusals.{error_without_place, is_refusal}
-use Rattle.json_data.proofs.Lists.{InList, join, one_more, leaves, peeks_on}
+use Rattle.json_data.proofs.Lists.{InList, join, one_more, leaves}
 
 pub join-join : (ts us vs : Trees) → join (join ts us) vs ≡ join ts (join us vs)
 join-join no_trees us vs = refl
@@ -77,22 +73,6 @@ pub out_of_range : {S : Type 0} {taken : S → List Tok → Type 0} {state : S �
 out_of_range {taken = taken} {state = state} {h = h} {a = a} {d = d} {t = t} e x y =
     subst (λ (z : Error). StopsReading taken state h a d z) (sym e) (refusing refl refl (record { tree = t; takes = x; answer = y }))
 
--- what is left begins with no end
-pub another : (h : Tree → Reading) (ts : Trees) (k : TokenKind) (xs : List Tok) → FirstIs xs k → k ≢ EndArray
-    → ((t : Tree) (us : Trees) → h (list (join ts (tree_and t us))) ≡ refuses TypeUnmatched)
-    → (us : Trees) → xs ≡ trees_tokens us ++ end array ∷ [] → h (list (join ts us)) ≡ refuses TypeUnmatched
-another h ts k xs f n q no_trees i = absurd (n (sym (subst (λ (ys : List Tok). FirstIs ys k) i f)))
-another h ts k xs f n q (tree_and t us) i = q t us
-
--- another element follows, and the list is left
-pub longer : {S : Type 0} {taken : S → List Tok → Type 0} {state : S → TokensState} {h : Tree → Reading} {a b c d : S} {ts : Trees} {k : TokenKind} {r : Error}
-    → r ≡ error_without_place TypeUnmatched → InList taken state a b ts → Peeks (state b) (state c) k → TakesTokens taken b [] c → k ≢ EndArray → Leaves taken state c d
-    → ((t : Tree) (us : Trees) → h (list (join ts (tree_and t us))) ≡ refuses TypeUnmatched)
-    → StopsReading taken state h a d r
-longer {taken = taken} {state = state} {h = h} {a = a} {d = d} {ts = ts} {k = k} e w y z n l q =
-    let p = leaves (peeks_on w y z) l in
-    mismatch e p.1 (another h ts k l.rest (l.as_peeked k y.peeked) n (λ t us. q t us) p.0 p.2)
-
 -- ---- trees other than null
 
 option_tree : (f : Tree → Reading) (t : Tree) (k : ErrorCode) → read_option f t ≡ refuses k → (t ≢ null) × (f t ≡ refuses k)
@@ -114,15 +94,3 @@ missed {f = f} {e = e} h = record {
 pub misses_stop : {S : Type 0} {taken : S → List Tok → Type 0} {state : S → TokensState} {f : Tree → Reading} {a b : S} {e : Error}
     → Misses taken state f a b e → StopsReading taken state f a b e
 misses_stop h = record { refused = λ p. let k = h.refused p in (k.0, record { tree = k.1.tree; takes = k.1.takes; answer = k.1.answer }); gave_up = h.gave_up }
-
--- ---- pairs
-
-pub pair-first : (f g : Tree → Reading) (k : ErrorCode) (t : Tree) (us : Trees) → f t ≡ refuses k → as_list (two f g (tree_and t us)) ≡ refuses k
-pair-first f g k t no_trees e = rw e
-pair-first f g k t (tree_and u no_trees) e = rw e
-pair-first f g k t (tree_and u (tree_and v us)) e = rw e
-
-pub pair-second : (f g : Tree → Reading) (k : ErrorCode) (s : Tree) (d : Datum) (t : Tree) (us : Trees)
-    → f s ≡ gives d → g t ≡ refuses k → as_list (two f g (tree_and s (tree_and t us))) ≡ refuses k
-pair-second f g k s d t no_trees p e = rw (p, e)
-pair-second f g k s d t (tree_and u us) p e = rw (p, e)

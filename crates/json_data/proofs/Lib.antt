@@ -1,4 +1,5 @@
 pub mod Lists
+pub mod TupleReading
 pub mod Exits
 pub mod TextCalls
 pub mod Pairs

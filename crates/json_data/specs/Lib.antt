@@ -4,6 +4,7 @@ pub mod Keys
 pub mod CharKeys
 pub mod Members
 pub mod Reader
+pub mod Tuples
 pub mod Calls
 pub mod ValueCalls
 pub mod ReadingValues

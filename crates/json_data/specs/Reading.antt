@@ -68,17 +68,6 @@ abbrev pub read_list : (Tree → Reading) → Tree → Reading
 read_list f (list ts) = as_list (each f ts)
 read_list f _ = refuses TypeUnmatched
 
--- a list of two: the elements' refusals first, then that of another length
-abbrev pub two : (Tree → Reading) → (Tree → Reading) → Trees → Series
-two f g no_trees = stops TypeUnmatched
-two f g (tree_and t no_trees) = prepend_reading (f t) (stops TypeUnmatched)
-two f g (tree_and t (tree_and u no_trees)) = prepend_reading (f t) (prepend_reading (g u) (gives_all []))
-two f g (tree_and t (tree_and u (tree_and v ts))) = prepend_reading (f t) (prepend_reading (g u) (stops TypeUnmatched))
-
-abbrev pub read_pair : (Tree → Reading) → (Tree → Reading) → Tree → Reading
-read_pair f g (list ts) = as_list (two f g ts)
-read_pair f g _ = refuses TypeUnmatched
-
 -- ---- numbers
 
 -- an integer of a type, by whether it lies in it

@@ -25,6 +25,7 @@ mod members;
 mod path_values;
 mod raws;
 mod readers;
+mod tuples;
 mod value_calls;
 mod value_readers;
 

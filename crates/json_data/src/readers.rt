@@ -1,12 +1,12 @@
 // What can be read.
-ghost use Rattle.std.specs.Prelude.{◌≡◌, ℕ, List, [], ◌∷◌, ◌⊎◌, Option, Some, None, true, false, IfOk, IfErr, IfSome, string_bytes, map};
+ghost use Rattle.std.specs.Prelude.{◌≡◌, ℕ, List, ◌⊎◌, Option, Some, None, true, false, IfOk, IfErr, IfSome, string_bytes, map};
 ghost use Rattle.std.specs.Cow.{cow_str_bytes};
 ghost use Rattle.json_grammar.specs.declared.Kind.TheVariants.{Array as array};
 ghost use Rattle.json_grammar.specs.Tree.{text, begin as begin_token, end as end_token};
 ghost use Rattle.json_tokens.specs.declared.token.TokenKind.TheVariants as TokenKind;
 ghost use Rattle.json_tokens.specs.Pieces.{Says};
 ghost use Rattle.json_model.specs.Datum.{null_datum, boolean_datum, text_datum, list_datum, list_data, option_datum};
-ghost use Rattle.json_data.specs.Reading.{gives, read_boolean, read_unit, read_text, read_option, read_list, read_pair, read_any};
+ghost use Rattle.json_data.specs.Reading.{gives, read_boolean, read_unit, read_text, read_option, read_list, read_any};
 ghost use Rattle.json_tokens.specs.Refusals.{is_refusal as spec_is_refusal};
 ghost use Rattle.json_tokens.specs.ExpectedTokens.{IsOpen, InArray};
 ghost use Rattle.json_tokens.specs.TokensStates.{NotWhole, WantsValue, TakesOne, TakesTree, TakesText, Leaves, TokensFail, FailsWithTokens};
@@ -285,7 +285,7 @@ fn element_by_kind<S: InputStr, V: DeserializeFrom<S>, T: Tokens<S>>(
 
 /// Reads the next element of an array. Returns `None` if the array ends, and takes its end.
 #[inline(always)]
-fn next_element<S: InputStr, V: DeserializeFrom<S>, T: Tokens<S>>(
+pub(crate) fn next_element<S: InputStr, V: DeserializeFrom<S>, T: Tokens<S>>(
     alloc: Global,
     tokens: &mut T,
 ) -> Result<Option<V>>
@@ -360,64 +360,6 @@ impl<S: InputStr, V: DeserializeFrom<S> + Drop> DeserializeFrom<S> for Vec<V> {
         }
         match read_elements(alloc, tokens) {
             Ok(all) => Ok(Some(all)),
-            Err(e) => Err(e),
-        }
-    }
-}
-
-/// Reads the two elements of an array whose beginning was taken, and takes its end.
-#[inline(always)]
-fn read_two<S: InputStr, A: DeserializeFrom<S> + Drop, B: DeserializeFrom<S> + Drop, T: Tokens<S>>(
-    alloc: Global,
-    tokens: &mut T,
-) -> Result<(A, B)>
-    requires { InArray (T.state tokens.old).expected }
-    ensures ok { (a : T) → TakesOne T.taken T.state a tokens.old (begin_token array)
-        → IfOk result (λ p. ReadsNonNull T.taken T.state
-        (read_pair A.from_tree B.from_tree) a tokens.new
-        (gives (list_datum (list_data (A.datum p.0 ∷ B.datum p.1 ∷ []))))) }
-    ensures err { (a : T) → TakesOne T.taken T.state a tokens.old (begin_token array)
-        → IfErr result (λ e.
-        Misses T.taken T.state (read_pair A.from_tree B.from_tree) a tokens.new e) }
-{
-    let first = match next_element(alloc, tokens) {
-        Ok(Some(first)) => first,
-        Ok(None) => return Err(error_without_place(ErrorCode::TypeUnmatched)),
-        Err(e) => return Err(leave_after(tokens, e)),
-    };
-    let second = match next_element(alloc, tokens) {
-        Ok(Some(second)) => second,
-        Ok(None) => return Err(error_without_place(ErrorCode::TypeUnmatched)),
-        Err(e) => return Err(leave_after(tokens, e)),
-    };
-    if tokens.ends(Kind::Array) {
-        return Ok((first, second));
-    }
-    if tokens.peek()? != TokenKind::EndArray {
-        tokens.leave()?;
-        return Err(error_without_place(ErrorCode::TypeUnmatched));
-    }
-    skip_token(tokens)?;
-    Ok((first, second))
-}
-
-impl<S: InputStr, A: DeserializeFrom<S> + Drop, B: DeserializeFrom<S> + Drop> DeserializeFrom<S>
-    for (A, B) {
-    ghost datum = { λ p. list_datum (list_data (A.datum p.0 ∷ B.datum p.1 ∷ [])) };
-
-    ghost from_tree = { read_pair A.from_tree B.from_tree };
-
-    fn deserialize<T: Tokens<S>>(alloc: Global, tokens: &mut T) -> Result<(A, B)> {
-        open_container(tokens, Kind::Array)?;
-        read_two(alloc, tokens)
-    }
-
-    fn try_deserialize<T: Tokens<S>>(alloc: Global, tokens: &mut T) -> Result<Option<(A, B)>> {
-        if !tokens.begins(Kind::Array) {
-            return Ok(None);
-        }
-        match read_two(alloc, tokens) {
-            Ok(pair) => Ok(Some(pair)),
             Err(e) => Err(e),
         }
     }

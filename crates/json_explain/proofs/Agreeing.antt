@@ -1,11 +1,11 @@
 -- A type refuses a tree exactly where it says where.
-use Rattle.std.proofs.Common.{refl, ℕ, suc, List, [], Option, Some, None}
+use Rattle.std.proofs.Common.{refl, ℕ, suc, List, [], ◌∷◌, Option, Some, None}
 use Rattle.json_grammar.specs.Tree.{Tree, null, boolean, num, text, list, pairs, Trees, no_trees, tree_and, Pairs, no_pairs, pair_and}
-use Rattle.json_io.specs.declared.error.ErrorCode.TheVariants.{TypeUnmatched}
 use Rattle.json_model.specs.Datum.{Rows, no_rows}
-use Rattle.json_data.specs.Reading.{Reading, gives, refuses, Series, gives_all, stops, prepend_reading, as_list, each, two, row_step, rows_from, insert_row}
-use Rattle.json_explain.specs.Laws.{Agrees, Explained, WholeExplained, OptionExplained, ListExplained, PairExplained, MapExplained}
-use Rattle.json_explain.specs.Refused.{Refused, RefusedStep, element_step, member_step, map_reading, reading_refused, refused_by_name, refused_first, part_refused, elements_refused, two_refused, other_length, members_refused}
+use Rattle.json_data.specs.Reading.{Reading, gives, refuses, Series, gives_all, stops, prepend_reading, as_list, each, row_step, rows_from, insert_row}
+use Rattle.json_data.specs.Tuples.{elements_by}
+use Rattle.json_explain.specs.Laws.{Agrees, Explained, AllExplained, WholeExplained, OptionExplained, ListExplained, TupleExplained, MapExplained}
+use Rattle.json_explain.specs.Refused.{Refused, RefusedStep, element_step, member_step, map_reading, reading_refused, refused_by_name, refused_first, part_refused, elements_refused, elements_refused_by, members_refused}
 use Rattle.json_explain.specs.declared.refusal.Wanted.{Wanted}
 
 at_reading : (r : Reading) (w : Wanted) (t : Tree) → Agrees r (reading_refused r w t)
@@ -44,28 +44,23 @@ list_explained f r h (text s) = refl
 list_explained f r h (list ts) = each_explained f r h 0 ts
 list_explained f r h (pairs ps) = refl
 
-last_part : (x : Reading) (y : Option Refused) (p : RefusedStep) → Agrees x y → Agrees (as_list (prepend_reading x (gives_all []))) (part_refused p y)
-last_part (gives d) None p h = tt
-last_part (gives d) (Some r) p h = absurd h
-last_part (refuses c) None p h = absurd h
-last_part (refuses c) (Some r) p h = h
+by_explained : (w : Wanted) (fs : List (Tree → Reading)) (rs : List (Tree → Option Refused)) → AllExplained fs rs → (i : ℕ) (ts : Trees)
+    → Agrees (as_list (elements_by fs ts)) (elements_refused_by w rs i ts)
+by_explained w [] [] h i no_trees = tt
+by_explained w [] [] h i (tree_and t ts) = refl
+by_explained w (f ∷ fs) (r ∷ rs) h i no_trees = refl
+by_explained w (f ∷ fs) (r ∷ rs) h i (tree_and t ts) =
+    one_more (f t) (r t) (elements_by fs ts) (elements_refused_by w rs (suc i) ts) (element_step i) (h.0 t) (by_explained w fs rs h.1 (suc i) ts)
+by_explained w [] (r ∷ rs) h i ts = absurd h
+by_explained w (f ∷ fs) [] h i ts = absurd h
 
-two_explained : (f g : Tree → Reading) (r s : Tree → Option Refused) → Explained f r → Explained g s → (ts : Trees) → Agrees (as_list (two f g ts)) (two_refused r s ts)
-two_explained f g r s h k no_trees = refl
-two_explained f g r s h k (tree_and t no_trees) = one_more (f t) (r t) (stops TypeUnmatched) other_length (element_step 0) (h t) refl
-two_explained f g r s h k (tree_and t (tree_and u no_trees)) =
-    one_more (f t) (r t) (prepend_reading (g u) (gives_all [])) (part_refused (element_step 1) (s u)) (element_step 0) (h t) (last_part (g u) (s u) (element_step 1) (k u))
-two_explained f g r s h k (tree_and t (tree_and u (tree_and v ts))) =
-    one_more (f t) (r t) (prepend_reading (g u) (stops TypeUnmatched)) (refused_first (part_refused (element_step 1) (s u)) other_length) (element_step 0) (h t)
-    (one_more (g u) (s u) (stops TypeUnmatched) other_length (element_step 1) (k u) refl)
-
-pub pair_explained : PairExplained
-pair_explained f g r s h k null = refl
-pair_explained f g r s h k (boolean b) = refl
-pair_explained f g r s h k (num l) = refl
-pair_explained f g r s h k (text b) = refl
-pair_explained f g r s h k (list ts) = two_explained f g r s h k ts
-pair_explained f g r s h k (pairs ps) = refl
+pub tuple_explained : TupleExplained
+tuple_explained w fs rs h null = refl
+tuple_explained w fs rs h (boolean b) = refl
+tuple_explained w fs rs h (num l) = refl
+tuple_explained w fs rs h (text b) = refl
+tuple_explained w fs rs h (list ts) = by_explained w fs rs h 0 ts
+tuple_explained w fs rs h (pairs ps) = refl
 
 row_more : (x y : Reading) (t : Tree) (z : Option Refused) (g : Rows → Reading) (rs : Rows) (o : Option Refused) (p : RefusedStep) → Agrees y z → ((qs : Rows) → Agrees (g qs) o)
     → Agrees (row_step x y g rs) (refused_first (part_refused p (refused_first (refused_by_name x t) z)) o)

@@ -2,5 +2,5 @@ pub mod Parts
 pub mod Texts
 pub mod Agreeing
 pub mod Taken
-pub mod Two
+pub mod TupleRefusals
 pub mod Walking

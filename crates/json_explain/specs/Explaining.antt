@@ -1,15 +1,18 @@
 -- What it is to explain a refusal.
-use Rattle.std.specs.Prelude.{◌≡◌, ℕ, ◌≤◌, List, false, true, Option, None, option_map, string_bytes, map, IfSome}
+use Rattle.std.specs.Prelude.{◌≡◌, ◌⊎◌, ℕ, ◌+◌, ◌≤◌, List, [], ◌∷◌, ◌++◌, length, false, true, Option, None, option_map, string_bytes, map, IfSome}
 use Rattle.json_grammar.specs.Fault.{reads}
 use Rattle.json_grammar.specs.Grammar.{is_text}
-use Rattle.json_grammar.specs.Tree.{Tree, Token as Tok, depth}
+use Rattle.json_grammar.specs.Tree.{Tree, Trees, trees_list, Token as Tok, depth}
 use Rattle.json_io.specs.declared.error.Place.{Place}
 use Rattle.json_io.specs.Positions.{place_at}
+use Rattle.json_doc.specs.declared.json_type.JsonType.TheVariants as kind
 use Rattle.json_doc.specs.Readings.{type_of}
 use Rattle.json_tokens.specs.Refusals.{is_refusal}
 use Rattle.json_tokens.specs.TokensStates.{TokensState, TakesTree}
+use Rattle.json_data.specs.Tuples.{TakesElements}
 use Rattle.json_explain.specs.declared.explanation.Explanation.{Explanation}
-use Rattle.json_explain.specs.Refused.{Refused, RefusedStep as StepOf, element_step, member_step}
+use Rattle.json_explain.specs.Refused.{Refused, RefusedStep as StepOf, element_step, member_step, refused_within, elements_refused_by}
+use Rattle.json_explain.specs.declared.refusal.Wanted.{Wanted}
 use Rattle.json_explain.specs.Paths.{PathLeadsTo, BeginsAt}
 use Rattle.json_explain.specs.declared.refusal.Step.{Step}
 use Rattle.json_explain.specs.declared.refusal.Step.TheVariants as step
@@ -40,6 +43,18 @@ pub record ExplainsTree {S : Type 0} (taken : S → List Tok → Type 0) (state 
   pub takes : TakesTree taken state a b tree
   pub answer : f tree ≡ r
   pub within : IfSome r (IsWithin tree)
+
+-- x is of an array whose elements from the index i on are ts: the array itself, or a value of one of them
+abbrev pub IsAmong : ℕ → Trees → Refused → Type 0
+IsAmong i ts x = ((x.path ≡ []) × (x.found_type ≡ kind.Array))
+    ⊎ ((before after : List Tree) × (u : Tree) × (y : Refused) × (trees_list ts ≡ before ++ u ∷ after) × IsWithin u y × (x ≡ refused_within (element_step (i + length before)) y))
+
+-- the elements from the index i on were taken and the end of their array, and r is where one of them or the array is refused
+pub record ExplainsElements {S : Type 0} (taken : S → List Tok → Type 0) (state : S → TokensState) (w : Wanted) (fs : List (Tree → Option Refused)) (i : ℕ) (a b : S) (r : Option Refused) : Type 0 where
+  pub elements : Trees
+  pub takes : TakesElements taken state a b elements
+  pub answer : elements_refused_by w fs i elements ≡ r
+  pub within : IfSome r (IsAmong i elements)
 
 -- the path leads to a value of t, which is of the kind that was found, and begins in the text b at the place p
 abbrev pub IsPlaced : ℕ → List ℕ → Tree → Place → Refused → Type 0

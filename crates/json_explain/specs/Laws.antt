@@ -1,8 +1,9 @@
 -- Laws of what is said of refusals: a type refuses a tree exactly where it says where, with the code that it says, if its parts do.
-use Rattle.std.specs.Prelude.{◌≡◌, ℕ, List, [], Option, Some, None}
+use Rattle.std.specs.Prelude.{◌≡◌, ℕ, List, [], ◌∷◌, Option, Some, None}
 use Rattle.json_grammar.specs.Tree.{Tree}
-use Rattle.json_data.specs.Reading.{Reading, gives, refuses, read_list, read_option, read_pair, read_map}
-use Rattle.json_explain.specs.Refused.{Refused, whole_refused, option_refused, list_refused, pair_refused, object_refused, map_reading}
+use Rattle.json_data.specs.Reading.{Reading, gives, refuses, read_list, read_option, read_map}
+use Rattle.json_data.specs.Tuples.{read_tuple}
+use Rattle.json_explain.specs.Refused.{Refused, whole_refused, option_refused, list_refused, tuple_refused, object_refused, map_reading}
 use Rattle.json_explain.specs.declared.refusal.Wanted.{Wanted}
 
 abbrev pub Agrees : Reading → Option Refused → Type 0
@@ -23,8 +24,14 @@ OptionExplained = (f : Tree → Reading) (r : Tree → Option Refused) → Expla
 abbrev pub ListExplained : Type 0
 ListExplained = (f : Tree → Reading) (r : Tree → Option Refused) → Explained f r → Explained (read_list f) (list_refused r)
 
-abbrev pub PairExplained : Type 0
-PairExplained = (f g : Tree → Reading) (r s : Tree → Option Refused) → Explained f r → Explained g s → Explained (read_pair f g) (pair_refused r s)
+-- each of these says where the reading in its place refuses
+abbrev pub AllExplained : List (Tree → Reading) → List (Tree → Option Refused) → Type 0
+AllExplained [] [] = Unit {0}
+AllExplained (f ∷ fs) (r ∷ rs) = Explained f r × AllExplained fs rs
+AllExplained fs rs = ⊥
+
+abbrev pub TupleExplained : Type 0
+TupleExplained = (w : Wanted) (fs : List (Tree → Reading)) (rs : List (Tree → Option Refused)) → AllExplained fs rs → Explained (read_tuple fs) (tuple_refused w rs)
 
 abbrev pub MapExplained : Type 0
 MapExplained = (k : List ℕ → Reading) (f : Tree → Reading) (r : Tree → Option Refused) → Explained f r → Explained (read_map k f) (object_refused (map_reading k r) [])

@@ -75,21 +75,21 @@ abbrev pub list_refused : (Tree → Option Refused) → Tree → Option Refused
 list_refused r (list ts) = elements_refused r 0 ts
 list_refused r t = Some (here TypeUnmatched wanted.Array t)
 
--- an array that has not two elements
-abbrev pub other_length : Option Refused
-other_length = Some (refused_here TypeUnmatched None (Some wanted.Pair) kind.Array)
+-- an array that has another number of elements than is wanted
+abbrev pub other_length : Wanted → Option Refused
+other_length w = Some (refused_here TypeUnmatched None (Some w) kind.Array)
 
--- of an array of two, the first element that is refused, and then the array, if it has another length
-abbrev pub two_refused : (Tree → Option Refused) → (Tree → Option Refused) → Trees → Option Refused
-two_refused r s no_trees = other_length
-two_refused r s (tree_and t no_trees) = refused_first (part_refused (element_step 0) (r t)) other_length
-two_refused r s (tree_and t (tree_and u no_trees)) = refused_first (part_refused (element_step 0) (r t)) (part_refused (element_step 1) (s u))
-two_refused r s (tree_and t (tree_and u (tree_and v ts))) =
-    refused_first (part_refused (element_step 0) (r t)) (refused_first (part_refused (element_step 1) (s u)) other_length)
+-- of an array with an element for each of these, of which the first has the index i: the first element that is refused, and then the array, if it
+-- has another length
+abbrev pub elements_refused_by : Wanted → List (Tree → Option Refused) → ℕ → Trees → Option Refused
+elements_refused_by w [] i no_trees = None
+elements_refused_by w [] i (tree_and t ts) = other_length w
+elements_refused_by w (r ∷ rs) i no_trees = other_length w
+elements_refused_by w (r ∷ rs) i (tree_and t ts) = refused_first (part_refused (element_step i) (r t)) (elements_refused_by w rs (suc i) ts)
 
-abbrev pub pair_refused : (Tree → Option Refused) → (Tree → Option Refused) → Tree → Option Refused
-pair_refused r s (list ts) = two_refused r s ts
-pair_refused r s t = Some (here TypeUnmatched wanted.Pair t)
+abbrev pub tuple_refused : Wanted → List (Tree → Option Refused) → Tree → Option Refused
+tuple_refused w rs (list ts) = elements_refused_by w rs 0 ts
+tuple_refused w rs t = Some (here TypeUnmatched w t)
 
 -- ---- objects
 

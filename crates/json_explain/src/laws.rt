@@ -1,5 +1,5 @@
 //! Laws of where and why values are refused.
-ghost use Rattle.json_explain.specs.Laws.{WholeExplained, OptionExplained, ListExplained, PairExplained, MapExplained};
+ghost use Rattle.json_explain.specs.Laws.{WholeExplained, OptionExplained, ListExplained, TupleExplained, MapExplained};
 
 /// Shows that a value without parts is refused as a whole exactly if reading it refuses it.
 pub fn whole_explained()
@@ -17,10 +17,10 @@ pub fn list_explained()
     ensures { ListExplained }
 {}
 
-/// Shows that a pair is refused exactly if one of its two elements is, at the first such element,
-/// or if the array has another length.
-pub fn pair_explained()
-    ensures { PairExplained }
+/// Shows that a tuple is refused exactly if one of its elements is, at the first such element, or
+/// if the array has another length.
+pub fn tuple_explained()
+    ensures { TupleExplained }
 {}
 
 /// Shows that a map is refused exactly if a key or a value of it is, at the first such member.

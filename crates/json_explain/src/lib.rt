@@ -21,10 +21,10 @@ mod kinds;
 pub mod laws;
 mod maps;
 mod options;
-mod pairs;
 mod place;
 mod refusal;
 mod scalars;
+mod tuples;
 
 pub use calls::{from_reader, from_slice, from_slice_with, from_str, from_value};
 pub use containers::{ExplainMembers, explain_members};

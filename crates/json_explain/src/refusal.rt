@@ -75,8 +75,8 @@ pub enum Wanted {
     String,
     /// An array.
     Array,
-    /// An array of two elements.
-    Pair,
+    /// An array of exactly this many elements, from 2 to 8: a tuple.
+    Tuple(u8),
     /// An object.
     Object,
     /// A path within a document: an array of keys and indexes.
@@ -110,7 +110,14 @@ impl Wanted {
             Wanted::Character => "a string of one character",
             Wanted::String => "a string",
             Wanted::Array => "an array",
-            Wanted::Pair => "an array of two elements",
+            Wanted::Tuple(2) => "an array of two elements",
+            Wanted::Tuple(3) => "an array of three elements",
+            Wanted::Tuple(4) => "an array of four elements",
+            Wanted::Tuple(5) => "an array of five elements",
+            Wanted::Tuple(6) => "an array of six elements",
+            Wanted::Tuple(7) => "an array of seven elements",
+            Wanted::Tuple(8) => "an array of eight elements",
+            Wanted::Tuple(_) => "an array of another length",
             Wanted::Object => "an object",
             Wanted::Path => "an array of keys and indexes",
             Wanted::Edit => "an edit",

@@ -1,6 +1,7 @@
 pub mod Parts
 pub mod Decimals
 pub mod Turns
+pub mod Elements
 pub mod Members
 pub mod Rows
 pub mod Refused

@@ -1,4 +1,5 @@
 pub mod Writing
+pub mod Elements
 pub mod Nesting
 pub mod Testing
 pub mod Sending

@@ -32,6 +32,7 @@ mod numbers;
 mod scalars;
 mod serialize;
 mod texts;
+mod tuples;
 mod values;
 mod writing;
 

@@ -1,5 +1,5 @@
 // Lists.
-ghost use Rattle.std.specs.Prelude.{[], ◌∷◌, map};
+ghost use Rattle.std.specs.Prelude.{map};
 ghost use Rattle.json_print.specs.ExpectedEvents.{AcceptsValue};
 ghost use Rattle.json_model.specs.Datum.{list_datum, list_data};
 ghost use Rattle.json_print.specs.Data.{parts};
@@ -41,22 +41,6 @@ impl<T: Serialize> Serialize for Vec<T> {
 
     fn serialize<E: Events>(&self, out: &mut E) -> Result<()> {
         serialize_list(self.as_slice(), out)
-    }
-
-    fn key<'k>(&'k self, room: &'k mut KeyRoom) -> Option<&'k str> {
-        let _ = room;
-        None
-    }
-}
-
-impl<A: Serialize, B: Serialize> Serialize for (A, B) {
-    ghost datum = { λ s. list_datum (list_data (A.datum s.0 ∷ B.datum s.1 ∷ [])) };
-
-    fn serialize<E: Events>(&self, out: &mut E) -> Result<()> {
-        begin_list(Some(2), out)?;
-        self.0.serialize(out)?;
-        self.1.serialize(out)?;
-        end_list(out)
     }
 
     fn key<'k>(&'k self, room: &'k mut KeyRoom) -> Option<&'k str> {

@@ -8,6 +8,8 @@ mod config;
 #[cfg(test)]
 mod derived;
 #[cfg(test)]
+mod drawing;
+#[cfg(test)]
 mod explained;
 #[cfg(test)]
 mod floats_explained;
@@ -27,5 +29,7 @@ mod streams;
 mod texts;
 #[cfg(test)]
 mod trees;
+#[cfg(test)]
+mod tuples;
 #[cfg(test)]
 mod values;

@@ -7,7 +7,8 @@ use std::alloc::Global;
 use std::collections::BTreeMap;
 use test_fixtures::value_of;
 
-fn is_shown(alloc: Global, error: &Explanation, said: &str) -> bool {
+/// Whether the error is displayed so.
+pub fn is_shown(alloc: Global, error: &Explanation, said: &str) -> bool {
     match format!(in alloc; "{error}") {
         Ok(shown) => shown.as_str() == said,
         Err(_) => false,

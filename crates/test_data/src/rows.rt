@@ -277,6 +277,77 @@ fn containers_that_are_refused_within_lists(rt: HostRuntime) {
     assert!(rt; refuses::<Vec<Person>>(alloc, "[{\"age\":1}]", TypeUnmatched, 0));
 }
 
+// A text of no list of triples, and the code and the offset with which it is refused.
+struct NoTriples {
+    json: &'static str,
+    code: ErrorCode,
+    offset: usize,
+}
+
+impl Row for NoTriples {
+    fn text(&self) -> &'static str {
+        self.json
+    }
+
+    fn holds(&self, alloc: Global) -> bool {
+        let triples = read::<Vec<(u8, u8, u8)>>(alloc, self.json);
+        is_refused(triples, self.code, self.offset)
+    }
+}
+
+const NO_TRIPLES: &[NoTriples] = &[
+    NoTriples {
+        json: "[[1,2,3],[4,5]]",
+        code: TypeUnmatched,
+        offset: 0,
+    },
+    NoTriples {
+        json: " [[1,2,3],[4,5,6,7]]",
+        code: TypeUnmatched,
+        offset: 1,
+    },
+    NoTriples {
+        json: "[[1,2,3],[4,5,256]]",
+        code: NumberOutOfRange,
+        offset: 0,
+    },
+    NoTriples {
+        json: "[[1,2,300],[4]]",
+        code: NumberOutOfRange,
+        offset: 0,
+    },
+    NoTriples {
+        json: "[[1,true,300]]",
+        code: TypeUnmatched,
+        offset: 0,
+    },
+    NoTriples {
+        json: "[[1,2],[4,}]",
+        code: InvalidJsonValue,
+        offset: 10,
+    },
+    NoTriples {
+        json: "[[1,2,3,4,}]",
+        code: InvalidJsonValue,
+        offset: 10,
+    },
+    NoTriples {
+        json: "[[1,true,x]]",
+        code: InvalidJsonValue,
+        offset: 9,
+    },
+    NoTriples {
+        json: "[[1,2,3],[4,5",
+        code: EofWhileParsing,
+        offset: 13,
+    },
+];
+
+#[test]
+fn triples_that_are_refused(rt: HostRuntime) {
+    each_holds(&rt, rt.alloc(), NO_TRIPLES);
+}
+
 // What is read at the key `é`.
 fn at_accent(alloc: Global, text: &str) -> Result<Option<u8>> {
     let map = read::<BTreeMap<char, u8>>(alloc, text)?;

@@ -20,12 +20,13 @@ INSTEAD = {
     "Cow": "take `String`, or `CowStr<'a>` for text that is borrowed from the input",
     "Result": "take `Option<T>`, or a struct",
 }
+TUPLES = range(2, 9)
 NO_KEYS = {"Vec", "BTreeMap", "Value", "Array", "Object", "RawNumber", "Number", "()", "(,)"}
 
 
 @dataclass
 class Kind:
-    """A type: its text where the code is written, the last name of its path (of a pair `(,)`), its arguments, and the names that it
+    """A type: its text where the code is written, the last name of its path (of a tuple `(,)`), its arguments, and the names that it
     needs of the file that has the struct."""
 
     text: str
@@ -57,7 +58,7 @@ def read_arguments(stream, close, outside):
 
 def read_tuple(stream, outside):
     kinds, _ = read_arguments(stream, ")", outside)
-    if len(kinds) not in (0, 2):
+    if kinds and len(kinds) not in TUPLES:
         raise Refused(f"a tuple of {len(kinds)} cannot be a field: take a struct")
     return Kind(f"({', '.join(it.text for it in kinds)})", "(,)" if kinds else "()", "", kinds)
 
@@ -102,11 +103,11 @@ def read_kind(stream, outside):
 
 @dataclass
 class Surroundings:
-    """Of a crate: the names of other crates, the types for which it or the library has impls, and whether pairs have them."""
+    """Of a crate: the names of other crates, the types for which it or the library has impls, and the lengths of the tuples that have them."""
 
     outside: tuple
     own: set
-    has_pairs: bool
+    tuples: set
 
 
 def check_kind(kind, around, lifetime):
@@ -114,8 +115,8 @@ def check_kind(kind, around, lifetime):
     for it in kind.all():
         if it.head in INSTEAD and it.head not in around.own:
             raise Refused(f"`{it.head}` cannot be a field: {INSTEAD[it.head]}")
-        if it.head == "(,)" and not around.has_pairs:
-            raise Refused("a pair cannot be a field, since no error explains one: take a struct")
+        if it.head == "(,)" and len(it.arguments) not in around.tuples:
+            raise Refused(f"a tuple of {len(it.arguments)} cannot be a field, since no error explains one: take a struct")
         if it.head in PARAMETERS and len(it.arguments) != PARAMETERS[it.head]:
             raise Refused(f"`{it.text}`: `{it.head}` takes {PARAMETERS[it.head]} type{'s' * (PARAMETERS[it.head] > 1)}")
         if it.head == "BTreeMap" and it.arguments[0].head in NO_KEYS:
